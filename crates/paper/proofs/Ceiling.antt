@@ -1,0 +1,247 @@
+-- Demand 3, the ceiling: the defined count is at most m x (A x (1 + most + R) + B x (1 + 4 x most)), for any limit `most` on an entry, and so
+-- for converting at its own. The cap of a code is the sum of its steps' caps; a run is bounded by data, a case for each of its forms.
+-- Assumes nothing.
+use Prim.Native.Nat.{ℕ, zero, suc, _+_, _-_, _*_, _≤_, _<_}
+use mathlib.Core.Path.{_≡_, refl, sym, _∙_}
+use mathlib.Core.Bool.{Bool, true, false}
+use mathlib.Core.List.{List, [], _∷_, _++_}
+use native.Mathlib.Omega.{arith}
+use native.Mathlib.Nat.{le-trans, le-of-eq, suc-mul, zero-mul, one-mul, add-mul, add-zero}
+use lib.ListN.{length}
+use lib.Dec.{leb, lit≤}
+use borrow.Author.Tests.{leb-true}
+use Rattle.paper.specs.Bytes.{Bytes, if_then_else_}
+use Rattle.paper.specs.Sizes.{entry-most, scratch-least}
+use Rattle.paper.specs.Refusals.{Res, given, refused, _>>_, refuse_unless_, over-long-entry, short-scratch}
+use Rattle.paper.specs.Codes.{Conversion, Elm, Code}
+use Rattle.paper.specs.Checking.{
+  shape,
+  counts,
+  elms-count,
+  code-count,
+  codes-count,
+  attribute-loads,
+  other-steps,
+  Checked,
+  accepted,
+  faulty,
+  check,
+  report,
+  checked-codes,
+}
+use Rattle.paper.specs.Steps.{
+  Run,
+  done,
+  stop,
+  step,
+  onward,
+  stepped,
+  Setting,
+  top-entry,
+  limited,
+  price,
+  conversion-gives,
+  elm-step,
+  conversion-step,
+  elms-run,
+  code-run,
+  codes-run,
+  element-run,
+}
+use Rattle.paper.specs.Converting.{
+  Element,
+  elements,
+  elements-run,
+  count,
+  Outcome,
+  unbudgeted,
+  within-budget,
+  lawful-place,
+  lawful-code,
+  ready,
+  run,
+  finished,
+  carried-out,
+  convert,
+  convert-freely,
+  ceiling-over,
+  ceiling,
+}
+use Rattle.paper.proofs.Predicates.{Holds, holds, refuses, holds-then, holds-after, holds-next, All, none-of, and-all}
+use Rattle.paper.proofs.Entries.{Fit, limited-fits, cap, Stepped, steps-within, price-capped}
+use Rattle.paper.proofs.Budget.{budgeted-at-most}
+
+-- A run that costs at most n and, where it is done, answers with P.
+pub data Bounded {A : Type 0} (P : A → Type 0) : ℕ → Run A → Type 0 where
+  ends : {n : ℕ} {a : A} → P a → Bounded P n (done a)
+  stops : {n m : ℕ} → Bounded P n (stop m)
+  goes : {n cost m : ℕ} {r : Run A} → cost + m ≤ n → Bounded P m r → Bounded P n (step cost r)
+
+pub bounded-count : {A : Type 0} {P : A → Type 0} {n : ℕ} {r : Run A} → Bounded P n r → count r ≤ n
+unfolding count
+bounded-count (ends p) = omega arith
+bounded-count stops = omega arith
+bounded-count (goes h b) = omega (arith, bounded-count b)
+
+wider : {A : Type 0} {P : A → Type 0} {n m : ℕ} {r : Run A} → n ≤ m → Bounded P n r → Bounded P m r
+wider h (ends p) = ends p
+wider h stops = stops
+wider h (goes l b) = goes (le-trans l h) b
+
+bounded-onward : {A B : Type 0} {P : A → Type 0} {Q : B → Type 0} {n : ℕ} (m : ℕ) {r : Run A} {k : A → Run B} → Bounded P n r
+    → ((a : A) → P a → Bounded Q m (k a)) → Bounded Q (n + m) (onward r k)
+unfolding onward
+bounded-onward m (ends p) f = wider (omega arith) (f _ p)
+bounded-onward m stops f = stops
+bounded-onward m (goes {n = n} {cost = c} {m = l} h b) f =
+    let fits : c + (l + m) ≤ n + m = omega arith in
+    goes fits (bounded-onward m b f)
+
+bounded-stepped : {A B : Type 0} {P : ℕ × A → Type 0} {Q : B → Type 0} (c m : ℕ) {r : Res (ℕ × A)} (k : A → Run B) → Holds P r
+    → ((x : ℕ × A) → P x → (x .0 ≤ c) × Bounded Q m (k (x .1))) → Bounded Q (c + m) (stepped r k)
+unfolding stepped
+bounded-stepped c m k (holds {a = x} p) f =
+    let fits : x .0 + m ≤ c + m = omega (arith, f x p .0) in
+    goes fits (f x p .1)
+bounded-stepped c m k refuses f = stops
+
+-- Over the limit on an entry and the record's length.
+module _ (most : ℕ) (item : Bytes) where
+  -- the sum of the steps' caps: loads, and the others
+  unfoldable pub caps : ℕ → ℕ → ℕ
+  caps loads others = loads * (1 + most + length item) + others * (1 + 4 * most)
+
+  caps-add : (a b c d : ℕ) → caps a b + caps c d ≡ caps (a + c) (b + d)
+  unfolding caps
+  caps-add a b c d = omega (arith, add-mul a c (1 + most + length item), add-mul b d (1 + 4 * most))
+
+  -- one step, a load or not
+  caps-one : (loads : Bool) → cap most (length item) loads ≡ caps (counts true loads) (counts false loads)
+  unfolding cap caps
+  caps-one true = omega (arith, one-mul (1 + most + length item), zero-mul (1 + 4 * most))
+  caps-one false = omega (arith, zero-mul (1 + most + length item), one-mul (1 + 4 * most))
+
+  unfoldable pub elms-cap : List Elm → ℕ
+  elms-cap es = caps (elms-count true es) (elms-count false es)
+
+  elms-cap-more : (e : Elm) (es : List Elm) → cap most (length item) (shape e .loads) + elms-cap es ≡ elms-cap (e ∷ es)
+  unfolding elms-cap elms-count
+  elms-cap-more e es = rw caps-one (caps-add _ _ _ _)
+
+  unfoldable pub code-cap : Code → ℕ
+  code-cap c = caps (code-count true c) (code-count false c)
+
+  unfoldable pub codes-cap : List Code → ℕ
+  codes-cap cs = caps (codes-count true cs) (codes-count false cs)
+
+  codes-cap-more : (c : Code) (cs : List Code) → code-cap c + codes-cap cs ≡ codes-cap (c ∷ cs)
+  unfolding code-cap codes-cap codes-count
+  codes-cap-more c cs = caps-add _ _ _ _
+
+  top-bounded : (stack : List Bytes) → All (Fit most) stack → Bounded (Fit most) 0 (top-entry stack)
+  unfolding top-entry
+  top-bounded [] fits = stops
+  top-bounded (x ∷ xs) (and-all fit fits) = ends fit
+
+  abbrev seen : ℕ → ℕ → Bytes → Setting
+  seen v s e = record { item = item; v = v; s = s; previous = e }
+
+  -- One F code from any stack within the limit.
+  elms-bounded : (v s : ℕ) (e : Bytes) (es : List Elm) (stack : List Bytes) → All (Fit most) stack
+      → Bounded (Fit most) (elms-cap es) (elms-run most (seen v s e) es stack)
+  unfolding elms-run
+  elms-bounded v s e [] stack fits = wider (omega arith) (top-bounded stack fits)
+  elms-bounded v s e (m ∷ es) stack fits =
+      wider (le-of-eq (elms-cap-more m es))
+      (bounded-stepped (cap most (length item) (shape m .loads)) (elms-cap es) _
+      (steps-within most (seen v s e) m stack fits)
+      (λ x p. (p .capped, elms-bounded v s e es (x .1) (p .fit))))
+
+  conversion-within : (v s : ℕ) (k : Conversion) (e : Bytes) → Fit most e
+      → Holds (λ x. (x .0 ≤ cap most (length item) false) × Fit most (x .1))
+      (conversion-step most (seen v s e) k)
+  unfolding conversion-step
+  conversion-within v s k e fit =
+      holds-then (limited-fits most _)
+      (λ put fit′. holds
+      (price-capped most item false 1 1 (e ∷ []) (put ∷ []) (and-all fit none-of) (lit≤ tt) refl (and-all fit′ none-of) (lit≤ tt), fit′))
+
+  -- One code of an element within the limit.
+  code-bounded : (v s : ℕ) (c : Code) (e : Bytes) → Fit most e
+      → Bounded (Fit most) (code-cap c) (code-run most (seen v s e) c)
+  unfolding code-run code-cap code-count elms-cap
+  code-bounded v s (Code.function es) e fit = elms-bounded v s e es [] none-of
+  code-bounded v s (Code.single k) e fit =
+      wider (le-of-eq (add-zero _ ∙ caps-one false))
+      (bounded-stepped (cap most (length item) false) 0 done (conversion-within v s k e fit) (λ x p. (p .0, ends (p .1))))
+
+  codes-bounded : (v s : ℕ) (cs : List Code) (e : Bytes) → Fit most e → Bounded (Fit most) (codes-cap cs) (codes-run most item v s cs e)
+  unfolding codes-run
+  codes-bounded v s [] e fit = ends fit
+  codes-bounded v s (c ∷ cs) e fit =
+      wider (le-of-eq (codes-cap-more c cs))
+      (bounded-onward (codes-cap cs) (code-bounded v s c e fit) (λ r fit′. codes-bounded v s cs r fit′))
+
+  within-or-not : (v s : ℕ) (cs : List Code) (e : Bytes) (t : Bool) → leb (length e) most ≡ t
+      → Bounded (Fit most) (codes-cap cs) (if t then codes-run most item v s cs e else stop over-long-entry)
+  within-or-not v s cs e true q = codes-bounded v s cs e (leb-true _ _ q)
+  within-or-not v s cs e false q = stops
+
+  element-bounded : (v s : ℕ) (cs : List Code) (e : Bytes) → Bounded (Fit most) (codes-cap cs) (element-run most item v s cs e)
+  unfolding element-run
+  element-bounded v s cs e = within-or-not v s cs e (leb (length e) most) refl
+
+  -- All elements of an address.
+  elements-bounded : (cs : List Code) (es : List Element)
+      → Bounded (λ _. Unit {0}) (length es * codes-cap cs) (elements-run most item cs es)
+  unfolding elements-run
+  elements-bounded cs [] = ends tt
+  elements-bounded cs (e ∷ es) =
+      wider (rw suc-mul (omega arith))
+      (bounded-onward (length es * codes-cap cs + 0) (element-bounded (e .v) (e .s) cs (e .text))
+      (λ r fit. bounded-onward 0 (elements-bounded cs es) (λ rest t. ends tt)))
+
+-- The defined count of a run of any codes, for any limit on an entry.
+pub run-within-ceiling : (most : ℕ) (item : Bytes) (cs : List Code) (es : List Element)
+    → count (elements-run most item cs es)
+    ≤ ceiling-over most (attribute-loads cs) (other-steps cs) (length item) (length es)
+unfolding ceiling-over attribute-loads other-steps caps codes-cap
+run-within-ceiling most item cs es = bounded-count (elements-bounded most item cs es)
+
+-- the codes that converting runs are those that checking accepted
+codes-accepted : (c : Checked) (cs : List Code) → checked-codes c ≡ given cs → c ≡ accepted cs
+unfolding checked-codes
+codes-accepted (accepted ds) cs e = cc
+codes-accepted (faulty n k) cs e = let z : _≡_ {A = ℕ} 0 1 = cc in absurd (omega arith)
+
+pub ready-accepted : (item string : Bytes) (a v s scratch : ℕ) → Holds (λ cs. check string ≡ accepted cs) (ready item string a v s scratch)
+unfolding ready lawful-code
+ready-accepted item string a v s scratch =
+    holds-next (lawful-place item a v s)
+    (λ _ _. holds-after (checked-codes (check string)) (λ cs e. holds-next (refuse short-scratch unless leb scratch-least scratch) (λ _ _. holds (codes-accepted (check string) cs e))))
+
+carried-within : (item string : Bytes) (a v s room : ℕ) {readied : Res (List Code)} → Holds (λ cs. check string ≡ accepted cs) readied
+    → carried-out unbudgeted item a v s room readied .steps
+    ≤ ceiling (report (check string) .loads) (report (check string) .others) (length item) (length (elements item a v s))
+unfolding carried-out finished unbudgeted run ceiling report
+carried-within item string a v s room refuses = omega arith
+carried-within item string a v s room (holds {a = cs} e) = rw e (run-within-ceiling entry-most item cs (elements item a v s))
+
+-- "The count is never above a ceiling worked out beforehand": from the numbers A and B that checking the string gives.
+pub count-within-ceiling : (item string : Bytes) (a v s room scratch : ℕ)
+    → convert-freely item string a v s room scratch .steps
+    ≤ ceiling (report (check string) .loads) (report (check string) .others) (length item) (length (elements item a v s))
+unfolding convert-freely
+count-within-ceiling item string a v s room scratch = carried-within item string a v s room (ready-accepted item string a v s scratch)
+
+-- and so with any budget, whatever comes of it
+pub steps-within-ceiling : (item string : Bytes) (a v s budget room scratch : ℕ)
+    → convert item string a v s budget room scratch .steps
+    ≤ ceiling (report (check string) .loads) (report (check string) .others) (length item) (length (elements item a v s))
+steps-within-ceiling item string a v s budget room scratch =
+    le-trans (budgeted-at-most item string a v s budget room scratch) (count-within-ceiling item string a v s room scratch)
+
+-- The limit of 1,024 put in: m x (A x (1,025 + R) + B x 4,097).
+pub ceiling-read : (loads others length m : ℕ) → ceiling loads others length m ≡ m * (loads * (1_025 + length) + others * 4_097)
+unfolding ceiling ceiling-over entry-most
+ceiling-read loads others length m = refl

@@ -1,0 +1,112 @@
+-- Document 01, "Examples on both sides": the starred examples, as one table under one theorem, by computation.
+-- Below it the easy slips, and what a wrong reading of a rule would get wrong, in the same way. Assumes nothing.
+use Prim.Native.Nat.{ℕ, _+_}
+use Prim.Native.String.{String}
+use mathlib.Core.Path.{_≡_, refl}
+use mathlib.Core.List.{List, [], _∷_, _++_, map}
+use lib.ListN.{length}
+use lib.Dec.{eqb}
+use Rattle.paper.specs.Refusals.{refusal-of, answer-of}
+use Rattle.paper.specs.Bytes.{Bytes, if_then_else_, ch, bytes, is-digit, is-upper, is-lower, is-letter, digit-value, any, only, same-bytes}
+use Rattle.paper.specs.Sizes.{attribute-mark, value-mark, subvalue-mark, record-most, is-mark, is-outer-mark, is-inner-mark, entry-most, scratch-least}
+use Rattle.paper.specs.Records.{split, join, placed, pieces, nth, path, part-at, whole, id-of, place, lawful-id, lawful-record, lawful-address, reads}
+use Rattle.paper.specs.Numbers.{signed, natural, value, numeric, ranged, number, digits, trimmed, decimal, number-text, negated, plus, times, quotient, remainder, below, bytes-below, compared, holds, binary-gives, substring-gives}
+use Rattle.paper.specs.Grammar.{this, flag, choose, more-digits, numeral, num, quoted, separator, group-after, group-code, extract-from, extract-code, admit-from, length-after, length-code, except-code, character-code, scales, credit-letter, fill-byte, fill-width, fill-part, mask-code, is-separator, date-after, date-code, masking-code, conversion, repeats, attribute-elm, literal-elm, previous-elm, multiply-elm, bracket-elm, converting-elm, operator-elm, elm, parted, elms, function-code, code, read}
+use Rattle.paper.specs.Checking.{Report, shape, stacked, all-stacked, lawful, judged, judged-all, code-texts, check, elms-count, code-count, codes-count, attribute-loads, other-steps, report, checked-codes}
+use Rattle.paper.specs.Texts.{raised, lowered, titled, hex-digit, hexed, hex-value, unhexed, plain-gives}
+use Rattle.paper.specs.Masks.{number-gives, rounded, scaled, grouped, integer-text, point-text, digits-text, before-digits, after-digits, masked-text, laid-out, blank-text, number-masked, mask-gives}
+use Rattle.paper.specs.Dates.{leap, month-lengths, month-names, days-before-year, year-of, month-day, date-of, ranged-day, year-text, date-text, date-gives}
+use Rattle.paper.specs.Steps.{onward, stepped, conversion-gives, load-path, operand, bytes-in, price, top-entry, limited, elm-puts, elm-step, conversion-step, elms-run, code-run, codes-run, element-run}
+use Rattle.paper.specs.Converting.{Outcome, subvalues, values, from-one, elements-in, elements-of, elements, elements-run, within-budget, lawful-place, lawful-code, ready, run, fitted, finished, carried-out, convert, ceiling-over, ceiling}
+use Rattle.paper.specs.Program.{program-budget, drawn, printed}
+
+-- a drawn record: `^` for 254, `]` for 253 and `\` for 252
+marked : ℕ → ℕ
+marked b =
+    if eqb b (ch "^") then attribute-mark
+    else (if eqb b (ch "]") then value-mark else (if eqb b (ch "\\") then subvalue-mark else b))
+
+-- What an example calls: converting a record at an address under a budget, or its ceiling; a code on an element; a check.
+data Example : Type 0 where
+  converting : String → String → ℕ → ℕ → ℕ → ℕ → Example
+  at-most : String → String → ℕ → ℕ → ℕ → Example
+  giving : String → String → Example
+  checking : String → Example
+
+abbrev without-steps : Outcome → Bytes
+without-steps o = decimal (refusal-of (o .answer)) ++ ch " " ∷ map drawn (answer-of (o .answer))
+
+abbrev with-steps : Outcome → Bytes
+with-steps o = decimal (refusal-of (o .answer)) ++ ch " " ∷ decimal (o .steps) ++ ch " " ∷ map drawn (answer-of (o .answer))
+
+-- What it tells: the refusal, the steps where they are asked for, and the answer, marks drawn; a ceiling; a check's refusal.
+told : Example → Bytes
+unfolding bytes is-digit is-upper is-lower is-letter digit-value any only same-bytes is-mark is-outer-mark is-inner-mark entry-most scratch-least split join placed pieces nth path part-at whole id-of place lawful-id lawful-record lawful-address reads signed natural value numeric ranged number digits trimmed decimal number-text negated plus times quotient remainder below bytes-below compared holds binary-gives substring-gives this flag choose more-digits numeral num quoted separator group-after group-code extract-from extract-code admit-from length-after length-code except-code character-code scales credit-letter fill-byte fill-width fill-part mask-code is-separator date-after date-code masking-code conversion repeats attribute-elm literal-elm previous-elm multiply-elm bracket-elm converting-elm operator-elm elm parted elms function-code code read shape stacked all-stacked lawful judged judged-all code-texts check elms-count code-count codes-count attribute-loads other-steps report checked-codes raised lowered titled hex-digit hexed hex-value unhexed plain-gives number-gives rounded scaled grouped integer-text point-text digits-text before-digits after-digits masked-text laid-out blank-text number-masked mask-gives leap month-lengths month-names days-before-year year-of month-day date-of ranged-day year-text date-text date-gives onward stepped conversion-gives load-path operand bytes-in price top-entry limited elm-puts elm-step conversion-step elms-run code-run codes-run element-run subvalues values from-one elements-in elements-of elements elements-run within-budget lawful-place lawful-code ready run fitted finished carried-out convert ceiling-over ceiling drawn printed marked
+told (converting item code a v s budget) =
+    with-steps (convert (map marked (bytes item)) (bytes code) a v s budget record-most scratch-least)
+told (at-most item code a v s) =
+    let r = report (check (bytes code)) in
+    decimal
+    (ceiling (r .loads) (r .others) (length (bytes item)) (length (elements (map marked (bytes item)) a v s)))
+told (giving code element) =
+    without-steps
+    (convert (map marked (bytes "K1^") ++ bytes element) (bytes code) 1 0 0 program-budget record-most scratch-least)
+told (checking code) = decimal (report (check (bytes code)) .refusal)
+
+-- An example and what document 01 says of it.
+record Row : Type 0 where
+  example : Example
+  says : String
+
+abbrev row : Example → String → Row
+row e s = record { example = e; says = s }
+
+abbrev all-told : List Row → List Bytes
+all-told rows = map (λ r. told (r .example)) rows
+
+abbrev all-said : List Row → List Bytes
+all-said rows = map (λ r. bytes (r .says)) rows
+
+starred : List Row
+starred =
+    row (converting "K1^10]20^3" "F;1;2R;*" 1 0 0 program-budget) "0 62 30]60"
+    ∷ row (at-most "K1^10]20^3" "F;1;2R;*" 1 0 0) "12334"
+    ∷ row (converting "K1^10]20^3" "F;1;2R;*" 1 0 0 61) "15 56 "
+    ∷ row (giving "F;'7';'2';-" "") "0 5"
+    ∷ row (giving "F;'-7';'2';/" "") "0 -3"
+    ∷ row (giving "F;'-7';'2';R" "") "0 -1"
+    ∷ row (giving "F;'7';'0';/" "") "11 "
+    ∷ row (checking "F;1;+") "7"
+    ∷ row (giving "D" "0") "0 31 DEC 1967"
+    ∷ row (giving "D" "60") "0 29 FEB 1968"
+    ∷ row (giving "D" "10000") "0 18 MAY 1995"
+    ∷ row (giving "MR2" "1234") "0 12.34"
+    ∷ row (giving "MR2M" "-5") "0 0.05-"
+    ∷ row (giving "G1*1" "AB*CD*EF") "0 CD"
+    ∷ []
+
+starred-examples : all-told starred ≡ all-said starred
+unfolding told starred marked bytes
+starred-examples = refl
+
+-- "Easy slips", and one row for each rule that a slip of one sign or one number would change unseen
+slips : List Row
+slips =
+    -- a missing value is not the attribute's last one
+    row (converting "K1^10]20" "F;1" 1 3 0 program-budget) "0 9 "
+    -- a step may bring the sum exactly to the budget
+    ∷ row (converting "K1^10]20^3" "F;1;2R;*" 1 0 0 62) "0 62 30]60"
+    -- `[` is less or equal, `]` greater or equal
+    ∷ row (giving "F;'1';'2';[" "") "0 1"
+    ∷ row (giving "F;'1';'2';]" "") "0 0"
+    -- halves toward plus infinity
+    ∷ row (giving "MR01" "25") "0 3"
+    ∷ row (giving "MR01" "-25") "0 -2"
+    -- a checked string holds at most sixteen entries
+    ∷ row (checking "F;1;1;1;1;1;1;1;1;1;1;1;1;1;1;1;1") "0"
+    ∷ row (checking "F;1;1;1;1;1;1;1;1;1;1;1;1;1;1;1;1;1") "7"
+    ∷ []
+
+easy-slips : all-told slips ≡ all-said slips
+unfolding told slips marked bytes
+easy-slips = refl

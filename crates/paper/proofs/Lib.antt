@@ -1,0 +1,9 @@
+pub mod Budget
+pub mod Calendar
+pub mod Ceiling
+pub mod DateTexts
+pub mod Entries
+pub mod Examples
+pub mod Numerals
+pub mod Predicates
+pub mod Stack

@@ -1,0 +1,66 @@
+-- What holds of an answer, of a reader's result and of every member of a list: predicates as data, and how they pass through the
+-- definitions' ways of going on. Assumes nothing.
+use Prim.Native.Nat.{ℕ}
+use mathlib.Core.Path.{_≡_, refl}
+use mathlib.Core.Bool.{Bool, true, false}
+use mathlib.Core.List.{List, [], _∷_, _++_}
+use mathlib.Core.Option.{Option, none, some}
+use Rattle.paper.specs.Bytes.{Bytes, if_then_else_}
+use Rattle.paper.specs.Refusals.{Res, given, refused, _>>=_, _>>_}
+use Rattle.paper.specs.Grammar.{Reader, follow, ahead}
+
+-- a refusal, or an answer with P
+pub data Holds {A : Type 0} (P : A → Type 0) : Res A → Type 0 where
+  holds : {a : A} → P a → Holds P (given a)
+  refuses : {n : ℕ} → Holds P (refused n)
+
+pub held : {A : Type 0} {P : A → Type 0} {a : A} → Holds P (given a) → P a
+held (holds p) = p
+
+pub holds-then : {A B : Type 0} {P : A → Type 0} {Q : B → Type 0} {r : Res A} {k : A → Res B} → Holds P r
+    → ((a : A) → P a → Holds Q (k a)) → Holds Q (r >>= k)
+holds-then (holds {a = a} p) f = f a p
+holds-then refuses f = refuses
+
+-- what goes on from an answer may use that it was that answer
+pub holds-after : {A B : Type 0} {Q : B → Type 0} (r : Res A) {k : A → Res B} → ((a : A) → r ≡ given a → Holds Q (k a))
+    → Holds Q (r >>= k)
+holds-after (given a) f = f a refl
+holds-after (refused n) f = refuses
+
+pub holds-next : {A B : Type 0} {Q : B → Type 0} (r : Res A) {q : Res B} → ((a : A) → r ≡ given a → Holds Q q) → Holds Q (r >> q)
+holds-next (given a) f = f a refl
+holds-next (refused n) f = refuses
+
+-- nothing read, or something with P
+pub data Reads {A : Type 0} (P : A → Type 0) : Option (A × Bytes) → Type 0 where
+  reads : {r : A × Bytes} → P (r .0) → Reads P (some r)
+  reads-not : Reads P none
+
+pub reads-then : {A B : Type 0} {P : A → Type 0} {Q : B → Type 0} {o : Option (A × Bytes)} {k : A → Reader B} → Reads P o
+    → ((a : A) (bs : Bytes) → P a → Reads Q (k a bs)) → Reads Q (follow o k)
+reads-then (reads {r = r} p) f = f (r .0) (r .1) p
+reads-then reads-not f = reads-not
+
+pub reads-after : {A B : Type 0} {Q : B → Type 0} (o : Option (A × Bytes)) {k : A → Reader B}
+    → ((a : A) (bs : Bytes) → Reads Q (k a bs)) → Reads Q (follow o k)
+reads-after none f = reads-not
+reads-after (some r) f = f (r .0) (r .1)
+
+pub reads-either : {A : Type 0} {P : A → Type 0} (t : Bool) {x y : Option (A × Bytes)} → Reads P x → Reads P y
+    → Reads P (if t then x else y)
+reads-either true p q = p
+reads-either false p q = q
+
+pub reads-ahead : {A : Type 0} {P : A → Type 0} (p : ℕ → Bool) {k : ℕ → Reader A} {other : Reader A}
+    → ((b : ℕ) (bs : Bytes) → Reads P (k b bs)) → ((bs : Bytes) → Reads P (other bs)) → (bs : Bytes) → Reads P (ahead p k other bs)
+reads-ahead p f g [] = g []
+reads-ahead p f g (b ∷ bs) = reads-either (p b) (f b bs) (g (b ∷ bs))
+
+pub data All {A : Type 0} (P : A → Type 0) : List A → Type 0 where
+  none-of : All P []
+  and-all : {a : A} {rest : List A} → P a → All P rest → All P (a ∷ rest)
+
+pub all-append : {A : Type 0} {P : A → Type 0} {xs ys : List A} → All P xs → All P ys → All P (xs ++ ys)
+all-append none-of q = q
+all-append (and-all p ps) q = and-all p (all-append ps q)

@@ -1,0 +1,16 @@
+pub mod Bytes
+pub mod Sizes
+pub mod Refusals
+pub mod Answers
+pub mod Records
+pub mod Numbers
+pub mod Codes
+pub mod Grammar
+pub mod Checking
+pub mod Texts
+pub mod Masks
+pub mod Dates
+pub mod TypedDates
+pub mod Steps
+pub mod Converting
+pub mod Program
