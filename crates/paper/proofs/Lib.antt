@@ -6,4 +6,7 @@ pub mod Entries
 pub mod Examples
 pub mod Numerals
 pub mod Predicates
+pub mod Refusing
+pub mod Replacing
+pub mod Splitting
 pub mod Stack

@@ -64,3 +64,7 @@ pub data All {A : Type 0} (P : A → Type 0) : List A → Type 0 where
 pub all-append : {A : Type 0} {P : A → Type 0} {xs ys : List A} → All P xs → All P ys → All P (xs ++ ys)
 all-append none-of q = q
 all-append (and-all p ps) q = and-all p (all-append ps q)
+
+pub all-map : {A : Type 0} {P Q : A → Type 0} {xs : List A} → ((a : A) → P a → Q a) → All P xs → All Q xs
+all-map f none-of = none-of
+all-map f (and-all {a = a} p ps) = and-all (f a p) (all-map f ps)

@@ -19,6 +19,8 @@ ghost use Rattle.paper.specs.Sizes.{
   number-most,
 };
 
+pub mod refusal;
+
 // A mark: "Marks are bytes of our choosing by Pick custom".
 pub struct Mark {
     pub byte: u8,
