@@ -8,5 +8,6 @@ pub mod Numerals
 pub mod Predicates
 pub mod Refusing
 pub mod Replacing
+pub mod Settled
 pub mod Splitting
 pub mod Stack

@@ -1,0 +1,27 @@
+-- Any two outcomes that a contract of this crate allows are equal: of every call, what the lent buffer holds afterwards.
+use mathlib.Core.Path.{_≡_, sym, _∙_}
+use contract.Lifetimes.{Lfts}
+use Rattle.lent.proofs.fill.Reads as fill
+use Rattle.lent.proofs.clear.Reads as clear
+use Rattle.lent.proofs.copy_in.Reads as copy-in
+use Rattle.lent.proofs.copy_down.Reads as copy-down
+use Rattle.lent.proofs.copy_up.Reads as copy-up
+use Rattle.lent.proofs.copy_within.Reads as copy-within
+
+fill-settled : (κs : Lfts 1) → (a : _) (r r′ : _) (e e′ : _) → fill.Post κs a r e → fill.Post κs a r′ e′ → e .0 .now ≡ e′ .0 .now
+fill-settled κs a r r′ e e′ p q = p ∙ sym q
+
+clear-settled : (κs : Lfts 1) → (a : _) (r r′ : _) (e e′ : _) → clear.Post κs a r e → clear.Post κs a r′ e′ → e .0 .now ≡ e′ .0 .now
+clear-settled κs a r r′ e e′ p q = p ∙ sym q
+
+copy-in-settled : (κs : Lfts 2) → (a : _) (r r′ : _) (e e′ : _) → copy-in.Post κs a r e → copy-in.Post κs a r′ e′ → e .1 .0 .now ≡ e′ .1 .0 .now
+copy-in-settled κs a r r′ e e′ p q = p ∙ sym q
+
+copy-down-settled : (κs : Lfts 1) → (a : _) (r r′ : _) (e e′ : _) → copy-down.Post κs a r e → copy-down.Post κs a r′ e′ → e .0 .now ≡ e′ .0 .now
+copy-down-settled κs a r r′ e e′ p q = p ∙ sym q
+
+copy-up-settled : (κs : Lfts 1) → (a : _) (r r′ : _) (e e′ : _) → copy-up.Post κs a r e → copy-up.Post κs a r′ e′ → e .0 .now ≡ e′ .0 .now
+copy-up-settled κs a r r′ e e′ p q = p ∙ sym q
+
+copy-within-settled : (κs : Lfts 1) → (a : _) (r r′ : _) (e e′ : _) → copy-within.Post κs a r e → copy-within.Post κs a r′ e′ → e .0 .now ≡ e′ .0 .now
+copy-within-settled κs a r r′ e e′ p q = p ∙ sym q
