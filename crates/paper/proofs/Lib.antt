@@ -8,6 +8,7 @@ pub mod Numerals
 pub mod Predicates
 pub mod Refusing
 pub mod Replacing
+pub mod Runs
 pub mod Settled
 pub mod Splitting
 pub mod Stack

@@ -68,3 +68,7 @@ all-append (and-all p ps) q = and-all p (all-append ps q)
 pub all-map : {A : Type 0} {P Q : A → Type 0} {xs : List A} → ((a : A) → P a → Q a) → All P xs → All Q xs
 all-map f none-of = none-of
 all-map f (and-all {a = a} p ps) = and-all (f a p) (all-map f ps)
+
+pub all-both : {A : Type 0} {P Q : A → Type 0} {xs : List A} → All P xs → All Q xs → All (λ a. P a × Q a) xs
+all-both none-of none-of = none-of
+all-both (and-all p ps) (and-all q qs) = and-all (p, q) (all-both ps qs)

@@ -64,11 +64,11 @@ pub data Told {A : Type 0} (P : A → Type 0) : Option A → Type 0 where
 pub told : {A : Type 0} {P : A → Type 0} {a : A} → Told P (some a) → P a
 told (present h) = h
 
-told-map : {A : Type 0} {P Q : A → Type 0} {o : Option A} → ((a : A) → P a → Q a) → Told P o → Told Q o
+pub told-map : {A : Type 0} {P Q : A → Type 0} {o : Option A} → ((a : A) → P a → Q a) → Told P o → Told Q o
 told-map f absent = absent
 told-map f (present {a = a} h) = present (f a h)
 
-told-then : {A B : Type 0} {P : A → Type 0} {Q : B → Type 0} {o : Option A} (k : A → Option B) → Told P o
+pub told-then : {A B : Type 0} {P : A → Type 0} {Q : B → Type 0} {o : Option A} (k : A → Option B) → Told P o
     → ((a : A) → P a → Told Q (k a)) → Told Q (and-then o k)
 told-then k absent h = absent
 told-then k (present {a = a} p) h = h a p
