@@ -1,0 +1,118 @@
+-- What one turn of each loop does, over plain lists: what the rest gives from the next place is what it gives from this one.
+use mathlib.Core.Path.{_≡_, refl, sym, ap, _∙_}
+use mathlib.Core.Bool.{Bool, true, false, _&&_, _||_}
+use mathlib.Core.List.{[], _∷_}
+use Prim.Native.Nat.{ℕ, suc, _+_, _-_, _≤_, _<_}
+use native.Mathlib.Numerals.{add-one}
+use native.Mathlib.Omega.{arith}
+use lib.ListN.{length, take, drop, getD, drop-of-length-le}
+use lib.Seq.{drop-cons}
+use lib.Dec.{leb, eqb}
+use mir.Val.{Fits}
+use mir.Syntax.{w8}
+use borrow.Author.Tests.{eq-eqb, ne-eqb, le-leb}
+use Rattle.paper.specs.Bytes.{Bytes, any, within, if_then_else_}
+use Rattle.paper.specs.Sizes.{attribute-mark, buffer-mark, is-mark}
+use Rattle.records.specs.Scan.{range, upto, is-either, skip}
+
+-- the byte at a place, and what is behind it
+here : (l : Bytes) (i : ℕ) → i < length l → drop i l ≡ getD l i 0 ∷ drop (i + 1) l
+here l i h = drop-cons l i 0 h ∙ ap (λ (k : ℕ). getD l i 0 ∷ drop k l) (sym (add-one i))
+
+or-assoc : (a b c : Bool) → a || b || c ≡ a || (b || c)
+or-assoc true b c = refl
+or-assoc false b c = refl
+
+or-false : (a : Bool) → a || false ≡ a
+or-false true = refl
+or-false false = refl
+
+and-true : (a : Bool) → a && true ≡ a
+and-true true = refl
+and-true false = refl
+
+-- ---- a test of every byte, without early exit
+
+module _ (p : ℕ → Bool) (text : Bytes) where
+  -- the test of the byte here joins the tests so far
+  pub any-more : (bad : Bool) (i : ℕ) (hit : Bool) → any p text ≡ bad || any p (drop i text) → i < length text → hit ≡ p (getD text i 0) → any p text ≡ bad || hit || any p (drop (i + 1) text)
+  unfolding any
+  any-more bad i hit e h eh =
+      e ∙ ap (λ (l : Bytes). bad || any p l) (here text i h) ∙ ap (λ (t : Bool). bad || (t || any p (drop (i + 1) text))) (sym eh)
+      ∙ sym (or-assoc bad hit (any p (drop (i + 1) text)))
+
+  pub any-all : (bad : Bool) (i : ℕ) → any p text ≡ bad || any p (drop i text) → length text ≤ i → bad ≡ any p text
+  unfolding any
+  any-all bad i e h = sym (e ∙ ap (λ (l : Bytes). bad || any p l) (drop-of-length-le text h) ∙ or-false bad)
+
+-- two tests of one byte, one after the other
+pub either-more : (x y b : ℕ) (bad rest : Bool) → bad || is-either x y b || rest ≡ bad || eqb b x || eqb b y || rest
+unfolding is-either
+either-more x y b bad rest = ap (λ (t : Bool). t || rest) (sym (or-assoc bad (eqb b x) (eqb b y)))
+
+-- no byte is above 255
+pub is-mark-byte : (b : ℕ) → Fits w8 b → leb buffer-mark b ≡ is-mark b
+unfolding is-mark
+is-mark-byte b f =
+    let small : b ≤ 255 = omega arith in
+    sym (ap (λ (t : Bool). leb buffer-mark b && t) (le-leb b 255 small) ∙ and-true (leb buffer-mark b))
+
+-- ---- the first byte within low .. high
+
+module _ (low high : ℕ) (item : Bytes) (to : ℕ) (inside : to ≤ length item) where
+  range-here : (at : ℕ) → at < to → range item at to ≡ getD item at 0 ∷ range item (at + 1) to
+  unfolding range
+  range-here at h =
+      let e : to - at ≡ suc (to - (at + 1)) = omega arith in
+      ap (λ (n : ℕ). take n (drop at item)) e ∙ ap (take (suc (to - (at + 1)))) (here item at (omega arith))
+
+  pub upto-hit : (at : ℕ) → at < to → within low high (getD item at 0) ≡ true → length (upto low high (range item at to)) ≡ 0
+  unfolding upto
+  upto-hit at h t =
+      ap (λ (l : Bytes). length (upto low high l)) (range-here at h)
+      ∙ ap (λ (t : Bool). length (if t then [] else (getD item at 0 ∷ upto low high (range item (at + 1) to)))) t
+
+  pub upto-more : (at : ℕ) → at < to → within low high (getD item at 0) ≡ false → at + length (upto low high (range item at to)) ≡ at + 1 + length (upto low high (range item (at + 1) to))
+  unfolding upto
+  upto-more at h t =
+      let e : length (upto low high (range item at to)) ≡ suc (length (upto low high (range item (at + 1) to)))
+      = ap (λ (l : Bytes). length (upto low high l)) (range-here at h)
+      ∙ ap (λ (t : Bool). length (if t then [] else (getD item at 0 ∷ upto low high (range item (at + 1) to)))) t in
+      omega arith
+
+  pub upto-none : (at : ℕ) → to ≤ at → length (upto low high (range item at to)) ≡ 0
+  unfolding upto range
+  upto-none at h =
+      let e : to - at ≡ 0 = omega arith in
+      ap (λ (n : ℕ). length (upto low high (take n (drop at item)))) e
+
+-- ---- past the marks
+
+-- a turn, with what is left seen as a successor
+skip-cons : (m b : ℕ) (bs : Bytes) (at n k : ℕ) → n ≡ suc k
+    → skip m (b ∷ bs) at n ≡ (if within (suc m) attribute-mark b then record { at = at; left = n } else skip m bs (at + 1) (if eqb b m then k else n))
+unfolding skip
+skip-cons m b bs at n k e = rw (e, add-one)
+
+module _ (m : ℕ) (item : Bytes) (at left : ℕ) where
+  pub skip-end : length item ≤ at → skip m (drop at item) at left ≡ record { at = at; left = left }
+  unfolding skip
+  skip-end h = ap (λ (l : Bytes). skip m l at left) (drop-of-length-le item h)
+
+  skip-turn : at < length item → 0 < left
+      → skip m (drop at item) at left ≡ (if within (suc m) attribute-mark (getD item at 0) then record { at = at; left = left } else skip m (drop (at + 1) item) (at + 1) (if eqb (getD item at 0) m then (left - 1) else left))
+  skip-turn h l = ap (λ (bs : Bytes). skip m bs at left) (here item at h) ∙ skip-cons m (getD item at 0) (drop (at + 1) item) at left (left - 1) (omega arith)
+
+  pub skip-closed : at < length item → 0 < left → within (suc m) attribute-mark (getD item at 0) ≡ true → skip m (drop at item) at left ≡ record { at = at; left = left }
+  skip-closed h l t = skip-turn h l ∙ rw t
+
+  pub skip-mark : at < length item → 0 < left → within (suc m) attribute-mark (getD item at 0) ≡ false → getD item at 0 ≡ m → skip m (drop at item) at left ≡ skip m (drop (at + 1) item) (at + 1) (left - 1)
+  skip-mark h l t e = skip-turn h l ∙ rw (t, eq-eqb (getD item at 0) m e)
+
+  pub skip-other : at < length item → 0 < left → within (suc m) attribute-mark (getD item at 0) ≡ false → (getD item at 0 ≡ m → ⊥) → skip m (drop at item) at left ≡ skip m (drop (at + 1) item) (at + 1) left
+  skip-other h l t e = skip-turn h l ∙ rw (t, ne-eqb (getD item at 0) m e)
+
+pub skip-none : (m : ℕ) (bs : Bytes) (at : ℕ) → skip m bs at 0 ≡ record { at = at; left = 0 }
+unfolding skip
+skip-none m [] at = refl
+skip-none m (b ∷ bs) at = refl

@@ -1,0 +1,64 @@
+-- How the code walks a record, byte by byte. Furniture for the proofs: proofs/Laws.antt ties each to the definitions of `paper`.
+use Prim.Native.Nat.{ℕ, zero, suc, _+_, _-_}
+use mathlib.Core.Bool.{Bool, _||_}
+use mathlib.Core.List.{[], _∷_, _++_}
+use lib.ListN.{length, take, drop, replicate}
+use lib.Dec.{eqb}
+use Rattle.paper.specs.Bytes.{Bytes, within, if_then_else_}
+use Rattle.paper.specs.Sizes.{attribute-mark, value-mark, subvalue-mark}
+use Rattle.records.specs.declared.Stop.{Stop}
+use Rattle.records.specs.declared.Spot.{Spot}
+
+-- the bytes from place `from` up to place `to`
+unfoldable pub range : Bytes → ℕ → ℕ → Bytes
+range item from to = take (to - from) (drop from item)
+
+-- the bytes before the first that is within low .. high; all of them where none is
+unfoldable pub upto : ℕ → ℕ → Bytes → Bytes
+upto low high [] = []
+upto low high (b ∷ bs) = if within low high b then [] else (b ∷ upto low high bs)
+
+-- one of two bytes
+unfoldable pub is-either : ℕ → ℕ → ℕ → Bool
+is-either x y b = eqb b x || eqb b y
+
+-- past n marks m, from place `at` on, until a mark above m ends the piece that holds them
+unfoldable pub skip : ℕ → Bytes → ℕ → ℕ → Stop
+skip m [] at n = record { at = at; left = n }
+skip m (b ∷ bs) at zero = record { at = at; left = 0 }
+skip m (b ∷ bs) at (suc n) = if within (suc m) attribute-mark b then record { at = at; left = suc n } else skip m bs (suc at) (if eqb b m then n else suc n)
+
+-- the piece that begins at a place, by the mark m and those above it, and the marks still to be made in front of it
+unfoldable pub spot-at : ℕ → Bytes → ℕ → ℕ → ℕ → ℕ → Spot
+spot-at m item at l₁ l₂ l₃ = record { start = at; end = at + length (upto m attribute-mark (drop at item)); attributes = l₁; values = l₂; subvalues = l₃ }
+
+-- the place of an address, found or to be made: mark by mark, as the address names them
+unfoldable pub spot : Bytes → ℕ → ℕ → ℕ → Spot
+spot item a zero s =
+    let p = skip attribute-mark item 0 a in
+    spot-at attribute-mark item (p .at) (p .left) 0 0
+spot item a (suc v) zero =
+    let p = skip attribute-mark item 0 a in
+    let q = skip value-mark (drop (p .at) item) (p .at) v in
+    spot-at value-mark item (q .at) (p .left) (q .left) 0
+spot item a (suc v) (suc s) =
+    let p = skip attribute-mark item 0 a in
+    let q = skip value-mark (drop (p .at) item) (p .at) v in
+    let r = skip subvalue-mark (drop (q .at) item) (q .at) s in
+    spot-at subvalue-mark item (r .at) (p .left) (q .left) (r .left)
+
+-- the marks that make a missing place
+unfoldable pub marks : Spot → Bytes
+marks p = replicate (p .attributes) attribute-mark ++ replicate (p .values) value-mark ++ replicate (p .subvalues) subvalue-mark
+
+-- how many they are
+abbrev pub made : Spot → ℕ
+made p = p .attributes + p .values + p .subvalues
+
+-- the record with the new bytes at the spot
+unfoldable pub changed : Bytes → Spot → Bytes → Bytes
+changed item p new = take (p .start) item ++ marks p ++ new ++ drop (p .end) item
+
+-- how long that is
+abbrev pub changed-length : ℕ → Spot → ℕ → ℕ
+changed-length size p count = p .start + made p + count + (size - p .end)
