@@ -14,6 +14,7 @@ use Rattle.paper.specs.Bytes.{if_then_else_, within}
 use Rattle.paper.specs.Dates.{Date, leap, month-lengths, days-before-year, days-in, days-to, year-of, month-day, date-of}
 use Rattle.paper.specs.TypedDates.{in-calendar}
 
+-- both tests pass
 pub both : (a b : Bool) → (a && b) ≡ true → (a ≡ true) × (b ≡ true)
 both true b t = (refl, t)
 both false b t = absurd (false≢true t)
@@ -81,6 +82,7 @@ nested y false true false a b c = omega (arith, eqb-true, eqb-false)
 nested y false false true a b c = omega (arith, eqb-true, eqb-false)
 nested y false false false a b c = refl
 
+-- a leap year's one day more
 leap-day : (b : Bool) → (if b then 366 else 365) ≡ 365 + (if b then 1 else 0)
 leap-day true = refl
 leap-day false = refl
@@ -186,7 +188,7 @@ month-day-at y m (l ∷ ls) (suc k) r h s =
 pub twelve : (y : ℕ) → length (month-lengths y) ≡ 12
 twelve y = rw lengths-are
 
-year-fills : (n y : ℕ) → In-year n y → n - days-before-year y < days-in (length (month-lengths y)) (month-lengths y)
+pub year-fills : (n y : ℕ) → In-year n y → n - days-before-year y < days-in (length (month-lengths y)) (month-lengths y)
 year-fills n zero p = absurd (not-suc-le-zero (p .first))
 year-fills n (suc y) p = rw (twelve, months-fill) (omega (arith, year-after y))
 
@@ -195,21 +197,21 @@ pub year-place : (n : ℕ) → Place (month-lengths (year-of n)) (n - days-befor
 year-place n = place (month-lengths (year-of n)) (n - days-before-year (year-of n)) (year-fills n (year-of n) (year-of-in n))
 
 -- the date of a place in a year
-year-day-at : (y k r : ℕ) → k < length (month-lengths y) → r < getD (month-lengths y) k 0
+pub year-day-at : (y k r : ℕ) → k < length (month-lengths y) → r < getD (month-lengths y) k 0
     → month-day y 1 (month-lengths y) (days-in k (month-lengths y) + r) ≡ record { year = y; month = suc k; day = suc r }
 year-day-at y k r h s = rw (← (add-one k)) (month-day-at y 1 (month-lengths y) k r h s)
 
 -- no month has more than 31 days
-abbrev all-within : ℕ → List ℕ → Bool
+abbrev pub all-within : ℕ → List ℕ → Bool
 all-within m [] = true
 all-within m (l ∷ ls) = leb l m && all-within m ls
 
-within-all : (m : ℕ) (ls : List ℕ) (k : ℕ) → all-within m ls ≡ true → getD ls k 0 ≤ m
+pub within-all : (m : ℕ) (ls : List ℕ) (k : ℕ) → all-within m ls ≡ true → getD ls k 0 ≤ m
 within-all m [] k t = omega arith
 within-all m (l ∷ ls) zero t = leb-true l m (both (leb l m) (all-within m ls) t .0)
 within-all m (l ∷ ls) (suc k) t = within-all m ls k (both (leb l m) (all-within m ls) t .1)
 
-month-most-by : (b : Bool) → all-within 31 (lengths-by b) ≡ true
+pub month-most-by : (b : Bool) → all-within 31 (lengths-by b) ≡ true
 month-most-by true = refl
 month-most-by false = refl
 
@@ -289,27 +291,28 @@ pub year-of-date : (n : ℕ) → n ≤ 3_652_058 → date-of n .year ≤ 9_999
 year-of-date n h = rw date-at (year-most n h)
 
 -- the day of a date lies in its year
-days-to-in : (y k r : ℕ) → 1 ≤ y → k < length (month-lengths y) → r < getD (month-lengths y) k 0
+place-in-year : (y k r : ℕ) → 1 ≤ y → k < length (month-lengths y) → r < getD (month-lengths y) k 0
     → In-year (days-before-year y + days-in k (month-lengths y) + r) y
-days-to-in zero k r f h s = absurd (not-suc-le-zero f)
-days-to-in (suc y) k r f h s =
+place-in-year zero k r f h s = absurd (not-suc-le-zero f)
+place-in-year (suc y) k r f h s =
     record {
       first = f;
       from = omega arith;
-      to =
-          omega (
-            arith,
-            year-after y,
-            rw (twelve, months-fill) at (place-before (month-lengths (suc y)) k r h s),
-          );
+      to = omega (arith, year-after y, rw (twelve, months-fill) at (place-before (month-lengths (suc y)) k r h s));
     }
 
+days-to-in-year : (d : Date) → In-calendar d → In-year (days-to d) (d .year)
+unfolding days-to
+days-to-in-year d p =
+    place-in-year (d .year) (pred (d .month)) (pred (d .day)) (p .year-first) (rw twelve (omega arith)) (omega (arith, p .day-last))
+
 -- the date of the day of a date is that date
-date-of-place : (y k r : ℕ) → 1 ≤ y → k < length (month-lengths y) → r < getD (month-lengths y) k 0
+date-of-place : (y k r : ℕ) → In-year (days-before-year y + days-in k (month-lengths y) + r) y
+    → k < length (month-lengths y) → r < getD (month-lengths y) k 0
     → date-of (days-before-year y + days-in k (month-lengths y) + r) ≡ record { year = y; month = suc k; day = suc r }
 unfolding date-of
-date-of-place y k r f h s =
-    let same = one-year _ _ _ (year-of-in (days-before-year y + days-in k (month-lengths y) + r)) (days-to-in y k r f h s) in
+date-of-place y k r p h s =
+    let same = one-year _ _ _ (year-of-in (days-before-year y + days-in k (month-lengths y) + r)) p in
     let rest : days-before-year y + days-in k (month-lengths y) + r - days-before-year y ≡ days-in k (month-lengths y) + r = omega arith in
     rw (same, rest) (year-day-at y k r h s)
 
@@ -319,5 +322,13 @@ date-of-days-to d t =
     let p = calendar-parts d t in
     let m : suc (pred (d .month)) ≡ d .month = omega (arith, p .month-first) in
     let e : suc (pred (d .day)) ≡ d .day = omega (arith, p .day-first) in
-    date-of-place (d .year) (pred (d .month)) (pred (d .day)) (p .year-first) (rw twelve (omega arith)) (omega (arith, p .day-last))
+    date-of-place (d .year) (pred (d .month)) (pred (d .day)) (days-to-in-year d p) (rw twelve (omega arith)) (omega (arith, p .day-last))
     ∙ λ i. record { year = d .year; month = m i; day = e i }
+
+-- no date up to 31 December 9999 has a later day
+days-before-most : (n y : ℕ) → In-year n y → y ≤ 9_999 → n ≤ 3_652_058
+unfolding days-before-year
+days-before-most n y p h = omega (arith, later-year y 10_000 (omega arith), p .to)
+
+pub days-to-most : (d : Date) → in-calendar d ≡ true → d .year ≤ 9_999 → days-to d ≤ 3_652_058
+days-to-most d t h = days-before-most (days-to d) (d .year) (days-to-in-year d (calendar-parts d t)) h

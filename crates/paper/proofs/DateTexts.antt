@@ -8,14 +8,15 @@ use native.Mathlib.Omega.{arith}
 use native.Mathlib.Nat.{mod-lt, not-suc-le-zero, le-of-suc-le-suc, zero-add, add-zero, add-suc, suc-add}
 use lib.ListN.{getD}
 use lib.Dec.{lit<}
-use borrow.Author.Tests.{le-leb, eq-eqb}
-use Rattle.paper.specs.Bytes.{Bytes, ch, is-digit, is-letter, is-upper, is-lower, digit-value, bytes, same-bytes}
+use borrow.Author.Tests.{eq-eqb}
+use Rattle.paper.specs.Bytes.{Bytes, ch, is-letter, is-upper, is-lower, digit-value, bytes, same-bytes}
 use Rattle.paper.specs.Refusals.{given}
 use Rattle.paper.specs.Numbers.{digits, natural, signed, plus}
 use Rattle.paper.specs.Texts.{raised}
 use Rattle.paper.specs.Grammar.{this, numeral, more-digits}
 use Rattle.paper.specs.Dates.{Date, month-names, date-of, date-text, year-text, day-zero}
 use Rattle.paper.specs.TypedDates.{typed-pair, typed-digit, typed-year, typed-month, typed-letter, month-called, typed-form, typed}
+use Rattle.paper.proofs.Numerals.{digit-byte}
 use Rattle.paper.proofs.Calendar.{
   In-calendar,
   calendar-parts,
@@ -28,10 +29,6 @@ use Rattle.paper.proofs.Calendar.{
 -- a digit's byte, and what it stands for
 abbrev digit : ℕ → ℕ
 digit x = ch "0" + x
-
-digit-byte : (x : ℕ) → x < 10 → is-digit (digit x) ≡ true
-unfolding is-digit
-digit-byte x h = simp (le-leb (ch "0") (ch "0" + x) (omega arith), le-leb (ch "0" + x) (ch "9") (omega arith))
 
 digit-back : (x : ℕ) → digit-value (digit x) ≡ x
 unfolding digit-value
@@ -59,7 +56,8 @@ pub year-read : (y : ℕ) (rest : Bytes) → y < 10_000 → typed-year (digits 4
 unfolding digits
 year-read y rest h =
     let same : ((y / 10 / 10 / 10 % 10 * 10 + y / 10 / 10 % 10) * 10 + y / 10 % 10) * 10 + y % 10 ≡ y = omega arith in
-    four-read (y / 10 / 10 / 10 % 10) (y / 10 / 10 % 10) (y / 10 % 10) (y % 10) rest (mod-lt _ (lit< tt)) (mod-lt _ (lit< tt)) (mod-lt _ (lit< tt)) (mod-lt _ (lit< tt))
+    four-read (y / 10 / 10 / 10 % 10) (y / 10 / 10 % 10) (y / 10 % 10) (y % 10) rest
+    (mod-lt _ (lit< tt)) (mod-lt _ (lit< tt)) (mod-lt _ (lit< tt)) (mod-lt _ (lit< tt))
     ∙ ap (λ (x : ℕ). some (x, rest)) same
 
 year-alone : (y : ℕ) → y < 10_000 → typed-year (digits 4 y) ≡ some (y, [])
@@ -107,7 +105,8 @@ form-read none d p h =
     )
 form-read (some s) d p h =
     let day : d .day < 100 = omega (arith, p .day-last, month-most (d .year) (pred (d .month))) in
-    rw (digits-read (d .month) _ (omega (arith, p .month-last)), this-read s, digits-read (d .day) _ day, this-read s, year-alone (d .year) (omega arith))
+    let month : d .month < 100 = omega (arith, p .month-last) in
+    rw (digits-read (d .month) _ month, this-read s, digits-read (d .day) _ day, this-read s, year-alone (d .year) (omega arith))
 
 -- reading back what D prints with four digits gives the day, whatever the separator
 pub read-back : (n : ℕ) (s : Option ℕ) → n ≤ 3_652_058

@@ -1,0 +1,6 @@
+pub mod Tables
+pub mod CalendarLaws
+pub mod TypingLaws
+pub mod NameLaws
+pub mod PrintingLaws
+pub mod Settled

@@ -1,0 +1,236 @@
+-- What D prints, piece by piece over the lent buffer, and its refusals. Assumes nothing.
+use Prim.Native.Nat.{ℕ, zero, suc, pred, _+_, _-_, _*_, _≤_, _<_}
+use mathlib.Core.Path.{_≡_, refl, sym, _∙_, ap}
+use mathlib.Core.Bool.{Bool, true, false}
+use mathlib.Core.List.{[], _∷_, _++_}
+use mathlib.Core.Option.{Option, none, some}
+use native.Mathlib.Numerals.{add-one, sub-one}
+use native.Mathlib.Omega.{arith}
+use lib.ListN.{length, take, drop, getD, set, length-append}
+use lib.Seq.{append-snoc, set-split}
+use lib.Dec.{leb}
+use borrow.Author.Tests.{le-leb, lt-leb, leb-true}
+use Rattle.paper.specs.Bytes.{Bytes, if_then_else_}
+use Rattle.paper.specs.Sizes.{entry-most, number-most}
+use Rattle.paper.specs.Refusals.{Res, given, refused, refuse_unless_, _>>_, _>>=_}
+use Rattle.paper.specs.Answers.{given-of, written}
+use Rattle.paper.specs.Numbers.{Number, numeric, ranged, digits}
+use Rattle.paper.specs.Masks.{on-number, number-gives}
+use Rattle.paper.specs.Steps.{limited}
+use Rattle.paper.specs.Dates.{Date, month-names, ranged-day, year-text, date-of, date-text, date-gives}
+use Rattle.paper.specs.declared.Given.the-variants.{Length, Refused}
+use Rattle.paper.proofs.Calendar.{calendar-parts, date-of-in-calendar}
+use Rattle.paper.proofs.Numerals.{length-digits}
+use Rattle.lent.specs.Over.{over}
+use Rattle.lent.proofs.Laws.{over-is, over-none, length-over, over-front, over-over}
+use Rattle.numbers.specs.declared.Form.{Form}
+use Rattle.numbers.specs.Forms.{whole, coded, form-of}
+use Rattle.dates.specs.declared.Date.{Date as Coded-date}
+use Rattle.dates.specs.declared.Ranged.{Ranged}
+use Rattle.dates.specs.Dated.{code-date, ranged-of}
+use Rattle.dates.specs.Scans.{dated-text}
+use Rattle.dates.proofs.Tables.{names, name-at, part-at}
+
+-- digits, and one byte, laid over a buffer
+pub digits-laid : (d : Bytes) (at k n : ℕ) → take at d ++ digits k n ++ drop (at + k) d ≡ over d at (digits k n)
+digits-laid d at k n = sym (over-is d at (digits k n) ∙ rw (length-digits k n))
+
+byte-laid : (d : Bytes) (at s : ℕ) → at < length d → set d at s ≡ over d at (s ∷ [])
+byte-laid d at s h = set-split d at s h ∙ sym (over-is d at (s ∷ []) ∙ rw (add-one at) (append-snoc (take at d) s (drop (suc at) d)))
+
+-- a piece behind a piece
+behind : (d : Bytes) (at place : ℕ) (s t : Bytes) → place ≡ at + length s → place + length t ≤ length d
+    → over (over d at s) place t ≡ over d at (s ++ t)
+behind d at place s t e h = rw e (over-over d at s t (rw e at h))
+
+-- the answer of `pair_text`
+pub pair-laid : (held mid : Bytes) (number s : ℕ) → 3 ≤ length held → mid ≡ take 0 held ++ digits 2 number ++ drop (0 + 2) held
+    → set mid 2 s ≡ over held 0 (digits 2 number ++ s ∷ [])
+pair-laid held mid number s h e =
+    let laid : mid ≡ over held 0 (digits 2 number) = e ∙ digits-laid held 0 2 number in
+    let long : length mid ≡ length held = ap length laid ∙ length-over held 0 (digits 2 number) (omega (arith, length-digits 2 number)) in
+    byte-laid mid 2 s (omega arith) ∙ rw laid (behind held 0 2 (digits 2 number) (s ∷ []) (omega (arith, length-digits 2 number)) h)
+
+-- the answer of `name_text`
+pub name-laid : (held last : Bytes) (month : ℕ) → 1 ≤ month → month ≤ 12
+    → last ≡ over held 3 (take (3 * (month - 1) + 3 - 3 * (month - 1)) (drop (3 * (month - 1)) names))
+    → last ≡ over held 3 (getD month-names (pred month) [])
+name-laid held last month h k e =
+    let long : 3 * (month - 1) + 3 - 3 * (month - 1) ≡ 3 = omega arith in
+    e ∙ rw (long, part-at (month - 1) (omega arith), sub-one)
+
+-- the answers of `year_text`
+pub year-none : (held : Bytes) (at n s year : ℕ) → n ≡ 0 → (0 ≡ length (year-text n s year)) × (held ≡ over held at (year-text n s year))
+unfolding year-text
+year-none held at n s year h = rw h (refl, sym (over-none held at))
+
+pub year-laid : (held last : Bytes) (at n s year : ℕ) → at + 5 ≤ length held → n ≤ 4 → (n ≡ 0 → ⊥)
+    → last ≡ take (at + 1) (set held at s) ++ digits n year ++ drop (at + 1 + n) (set held at s)
+    → (n + 1 ≡ length (year-text n s year)) × (last ≡ over held at (year-text n s year))
+unfolding year-text
+year-laid held last at zero s year h k nz e = absurd (nz refl)
+year-laid held last at (suc n) s year h k nz e = (
+  omega (arith, length-digits (suc n) year),
+  e ∙ digits-laid (set held at s) (at + 1) (suc n) year
+      ∙ rw (byte-laid held at s (omega arith))
+      (behind held at (at + 1) (s ∷ []) (digits (suc n) year) refl (omega (arith, length-digits (suc n) year))),
+)
+
+pub year-most : (n s year : ℕ) → n ≤ 4 → length (year-text n s year) ≤ 5
+unfolding year-text
+year-most zero s year h = omega arith
+year-most (suc n) s year h = omega (arith, length-digits (suc n) year)
+
+-- three pieces, one behind the other
+three-laid : (held one two last a b c : Bytes) (i j : ℕ) → one ≡ over held 0 a → i ≡ length a → two ≡ over one i b → j ≡ i + length b
+    → last ≡ over two j c → j + length c ≤ length held → last ≡ over held 0 (a ++ b ++ c)
+three-laid held one two last a b c i j p e q f r h =
+    let first : two ≡ over held 0 (a ++ b) = q ∙ rw p (behind held 0 i a b (omega arith) (omega arith)) in
+    r ∙ rw first (behind held 0 j (a ++ b) c (omega (arith, length-append a b)) h)
+
+name-long : (k : ℕ) → k < 12 → length (getD month-names k []) ≡ 3
+name-long k h = ap length (name-at k h)
+
+-- the answers of `date_text`
+pub lettered-laid : (held one two last : Bytes) (n r : ℕ) (d : Date) → 11 ≤ length held → n ≤ 4 → 1 ≤ d .month → d .month ≤ 12
+    → one ≡ over held 0 (digits 2 (d .day) ++ 32 ∷ []) → two ≡ over one 3 (getD month-names (pred (d .month)) [])
+    → last ≡ over two 6 (year-text n 32 (d .year)) → r ≡ length (year-text n 32 (d .year))
+    → (r + 6 ≡ length (date-text n none d)) × (last ≡ over held 0 (date-text n none d))
+unfolding date-text digits
+lettered-laid held one two last n r d h k m m′ p q t e =
+    let name = name-long (pred (d .month)) (omega arith) in (
+      omega (arith, name, length-append (getD month-names (pred (d .month)) []) (year-text n 32 (d .year))),
+      three-laid held one two last (digits 2 (d .day) ++ 32 ∷ []) (getD month-names (pred (d .month)) []) (year-text n 32 (d .year)) 3 6
+          p refl q (omega arith) t (omega (arith, year-most n 32 (d .year) k)),
+    )
+
+pub numbered-laid : (held one two last : Bytes) (n s r : ℕ) (d : Date) → 11 ≤ length held → n ≤ 4
+    → one ≡ over held 0 (digits 2 (d .month) ++ s ∷ []) → two ≡ take 3 one ++ digits 2 (d .day) ++ drop (3 + 2) one
+    → last ≡ over two 5 (year-text n s (d .year)) → r ≡ length (year-text n s (d .year))
+    → (r + 5 ≡ length (date-text n (some s) d)) × (last ≡ over held 0 (date-text n (some s) d))
+unfolding date-text digits
+numbered-laid held one two last n s r d h k p q t e = (
+  omega arith,
+  three-laid held one two last (digits 2 (d .month) ++ s ∷ []) (digits 2 (d .day)) (year-text n s (d .year)) 3 5
+      p refl (q ∙ digits-laid one 3 2 (d .day)) refl t (omega (arith, year-most n s (d .year) k)),
+)
+
+-- the answers of `ranged_day`: days before day zero, and from it on
+pub before-zero : (x : Number) → x .negative ≡ true → x .size ≤ 718_430 → Ranged.Day (718_430 - x .size) ≡ ranged-of (ranged-day x)
+unfolding ranged-day ranged-of
+before-zero x s h = rw (s, le-leb (x .size) 718_430 h)
+
+pub too-early : (x : Number) → x .negative ≡ true → 718_430 < x .size → Ranged.Outside ≡ ranged-of (ranged-day x)
+unfolding ranged-day ranged-of
+too-early x s h = rw (s, lt-leb (x .size) 718_430 h)
+
+pub from-zero : (x : Number) → x .negative ≡ false → x .size ≤ 2_933_628 → Ranged.Day (718_430 + x .size) ≡ ranged-of (ranged-day x)
+unfolding ranged-day ranged-of
+from-zero x s h = rw (s, le-leb (x .size) 2_933_628 h)
+
+pub too-late : (x : Number) → x .negative ≡ false → 2_933_628 < x .size → Ranged.Outside ≡ ranged-of (ranged-day x)
+unfolding ranged-day ranged-of
+too-late x s h = rw (s, lt-leb (x .size) 2_933_628 h)
+
+-- what a day in its range is, and what is refused: 10 alone
+pub data Reached : Res ℕ → Type 0 where
+  reached : {day : ℕ} → day ≤ 3_652_058 → Reached (given day)
+  outside : Reached (refused 10)
+
+reach : (x : Number) → Reached (ranged-day x)
+unfolding ranged-day
+reach x = by-sign (x .negative)
+  where
+    in-range : (t : Bool) {day : ℕ} → (t ≡ true → day ≤ 3_652_058) → Reached ((refuse 10 unless t) >> given day)
+    in-range true h = reached (h refl)
+    in-range false h = outside
+
+    by-sign : (neg : Bool)
+        → Reached ((refuse 10 unless (if neg then leb (x .size) 718_430 else leb (x .size) 2_933_628)) >> given (if neg then 718_430 - x .size else 718_430 + x .size))
+    by-sign true = in-range (leb (x .size) 718_430) (λ t. omega (arith, leb-true (x .size) 718_430 t))
+    by-sign false = in-range (leb (x .size) 2_933_628) (λ t. omega (arith, leb-true (x .size) 2_933_628 t))
+
+day-reached : {r : Res ℕ} {day : ℕ} → Reached r → ranged-of r ≡ Ranged.Day day → (r ≡ given day) × (day ≤ 3_652_058)
+unfolding ranged-of
+day-reached {day} (reached {day = d} h) e = let same : d ≡ day = cc in (ap given same, omega arith)
+day-reached outside e = let z : _≡_ {A = ℕ} 0 1 = cc in absurd (omega arith)
+
+day-outside : {r : Res ℕ} → Reached r → ranged-of r ≡ Ranged.Outside → r ≡ refused 10
+unfolding ranged-of
+day-outside (reached h) e = let z : _≡_ {A = ℕ} 0 1 = cc in absurd (omega arith)
+day-outside outside e = refl
+
+pub day-in-range : (x : Number) (r : Ranged) {day : ℕ} → r ≡ ranged-of (ranged-day x) → r ≡ Ranged.Day day
+    → (ranged-day x ≡ given day) × (day ≤ 3_652_058)
+day-in-range x r e f = day-reached (reach x) (sym e ∙ f)
+
+pub date-month : (day : ℕ) (d : Coded-date) → d ≡ code-date (date-of day) → (1 ≤ d .month) × (d .month ≤ 12)
+date-month day d e = let p = calendar-parts (date-of day) (date-of-in-calendar day) in rw e (p .month-first, p .month-last)
+
+-- the answers of `number_dated`
+pub dated-refused : (held : Bytes) (n : ℕ) (s : Option ℕ) (x : Number) (r : Ranged) → r ≡ ranged-of (ranged-day x) → r ≡ Ranged.Outside
+    → (Refused 10 ≡ given-of (dated-text n s (ranged-day x))) × (held ≡ written held (dated-text n s (ranged-day x)))
+unfolding dated-text given-of written
+dated-refused held n s x r e f = rw (day-outside (reach x) (sym e ∙ f)) (refl, refl)
+
+pub dated-given : (held last : Bytes) (n r : ℕ) (s : Option ℕ) (x : Number) (day : ℕ) (d : Date) → ranged-day x ≡ given day → d ≡ date-of day
+    → r ≡ length (date-text n s d) → last ≡ over held 0 (date-text n s d)
+    → (Length r ≡ given-of (dated-text n s (ranged-day x))) × (last ≡ written held (dated-text n s (ranged-day x)))
+unfolding dated-text given-of written
+dated-given held last n r s x day d e f p q = rw (e, ← f) (ap Length p, q ∙ over-front held (date-text n s d))
+
+-- no date is longer than a result may be
+text-most : (n : ℕ) (s : Option ℕ) (d : Date) → n ≤ 4 → 1 ≤ d .month → d .month ≤ 12 → length (date-text n s d) ≤ 11
+unfolding date-text digits
+text-most n none d k m m′ =
+    let name = name-long (pred (d .month)) (omega arith) in
+    omega (arith, name, year-most n 32 (d .year) k, length-append (getD month-names (pred (d .month)) []) (year-text n 32 (d .year)))
+text-most n (some s) d k m m′ = omega (arith, year-most n s (d .year) k)
+
+limited-dated : (n : ℕ) (s : Option ℕ) {r : Res ℕ} → n ≤ 4 → Reached r → limited entry-most (dated-text n s r) ≡ dated-text n s r
+unfolding limited entry-most dated-text
+limited-dated n s k (reached {day} h) =
+    let p = calendar-parts (date-of day) (date-of-in-calendar day) in
+    rw (le-leb (length (date-text n s (date-of day))) 1_024 (omega (arith, text-most n s (date-of day) k (p .month-first) (p .month-last))))
+limited-dated n s k outside = refl
+
+-- "Empty stays empty"
+pub limited-empty : (n : ℕ) (s : Option ℕ) (e : Bytes) → length e ≡ 0 → limited entry-most (date-gives n s e) ≡ given []
+unfolding limited entry-most date-gives number-gives
+limited-empty n s [] h = refl
+limited-empty n s (b ∷ bs) h = absurd (omega arith)
+
+-- what a number code gives on other elements, by their numeric form
+abbrev pub by-form : (Number → Res Bytes) → Form → Res Bytes
+by-form f (Form.Number x) = f (whole x)
+by-form f Form.TooLarge = refused 10
+by-form f Form.NotNumeric = refused 12
+
+form-decides : (f : Number → Res Bytes) (e : Bytes) → (length e ≡ 0 → ⊥) → number-gives f e ≡ by-form f (form-of (numeric e))
+unfolding number-gives form-of ranged
+form-decides f [] h = absurd (h refl)
+form-decides f (b ∷ bs) h = go (numeric (b ∷ bs))
+  where
+    size : (t : Bool) (x : Number)
+        → ((refuse 10 unless t) >> given x >>= f) ≡ by-form f (if t then Form.Number (coded x) else Form.TooLarge)
+    size true x = refl
+    size false x = refl
+
+    go : (o : Option Number) → on-number f o ≡ by-form f (form-of o)
+    go none = refl
+    go (some x) = size (leb (x .size) number-most) x
+
+limited-form : (n : ℕ) (s : Option ℕ) (r : Form) → n ≤ 4
+    → limited entry-most (by-form (λ x. dated-text n s (ranged-day x)) r) ≡ by-form (λ x. dated-text n s (ranged-day x)) r
+unfolding limited
+limited-form n s (Form.Number x) k = limited-dated n s k (reach (whole x))
+limited-form n s Form.TooLarge k = refl
+limited-form n s Form.NotNumeric k = refl
+
+-- the answers of `give`
+pub gives-by : (n : ℕ) (s : Option ℕ) (e : Bytes) (r : Form) → n ≤ 4 → (length e ≡ 0 → ⊥) → r ≡ form-of (numeric e)
+    → limited entry-most (date-gives n s e) ≡ by-form (λ x. dated-text n s (ranged-day x)) r
+unfolding date-gives dated-text
+gives-by n s e r k h f =
+    ap (limited entry-most) (form-decides (λ x. dated-text n s (ranged-day x)) e h ∙ ap (by-form (λ x. dated-text n s (ranged-day x))) (sym f))
+    ∙ limited-form n s r k

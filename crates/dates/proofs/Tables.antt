@@ -1,0 +1,100 @@
+-- The rule of each table, proved at all of its entries by one test that is computed. Assumes nothing.
+use Prim.Native.Nat.{ℕ, zero, suc, _+_, _*_, _≤_, _<_}
+use mathlib.Core.Path.{_≡_, refl, ap₂}
+use mathlib.Core.Bool.{Bool, true, false, _&&_, false≢true}
+use mathlib.Core.List.{List, [], _∷_}
+use mathlib.Core.Logic.{_⊎_, inl, inr}
+use native.Mathlib.Nat.{not-suc-le-zero, eq-or-lt-of-le, le-of-suc-le-suc}
+use native.Mathlib.Omega.{arith}
+use lib.ListN.{getD, take, drop}
+use lib.Dec.{eqb, ltb}
+use borrow.Author.Tests.{eqb-true}
+use Rattle.paper.specs.Bytes.{if_then_else_, bytes, same-bytes}
+use Rattle.paper.specs.Dates.{leap, month-lengths, month-names, days-in}
+use Rattle.paper.proofs.Calendar.{both, lengths-by, lengths-are, within-all}
+
+-- the test passes at every number below n
+abbrev pub below : (ℕ → Bool) → ℕ → Bool
+below f zero = true
+below f (suc n) = f n && below f n
+
+pub passed : (f : ℕ → Bool) (n k : ℕ) → below f n ≡ true → k < n → f k ≡ true
+passed f zero k t h = absurd (not-suc-le-zero h)
+passed f (suc n) k t h = go (passed f n k (both (f n) (below f n) t .1)) (eq-or-lt-of-le (le-of-suc-le-suc h))
+  where
+    go : (k < n → f k ≡ true) → (k ≡ n) ⊎ (k < n) → f k ≡ true
+    go onward (inl e) = rw e (both (f n) (below f n) t .0)
+    go onward (inr l) = onward l
+
+-- the lengths of the months of a common year
+abbrev pub lengths : List ℕ
+lengths = 31 ∷ 28 ∷ 31 ∷ 30 ∷ 31 ∷ 30 ∷ 31 ∷ 31 ∷ 30 ∷ 31 ∷ 30 ∷ 31 ∷ []
+
+abbrev length-right : Bool → ℕ → Bool
+length-right b k = eqb (getD lengths k 0 + (if b && eqb k 1 then 1 else 0)) (getD (lengths-by b) k 0)
+
+lengths-right : (b : Bool) → below (length-right b) 12 ≡ true
+lengths-right true = refl
+lengths-right false = refl
+
+pub length-at : (y k : ℕ) → k < 12 → getD lengths k 0 + (if leap y && eqb k 1 then 1 else 0) ≡ getD (month-lengths y) k 0
+length-at y k h = rw lengths-are (eqb-true _ _ (passed (length-right (leap y)) 12 k (lengths-right (leap y)) h))
+
+pub length-most : (k : ℕ) → getD lengths k 0 ≤ 31
+length-most k = within-all 31 lengths k refl
+
+-- the days of a common year before each month, and before its end
+abbrev pub befores : List ℕ
+befores = 0 ∷ 31 ∷ 59 ∷ 90 ∷ 120 ∷ 151 ∷ 181 ∷ 212 ∷ 243 ∷ 273 ∷ 304 ∷ 334 ∷ 365 ∷ []
+
+abbrev before-right : Bool → ℕ → Bool
+before-right b k = eqb (getD befores k 0 + (if b && ltb 1 k then 1 else 0)) (days-in k (lengths-by b))
+
+befores-right : (b : Bool) → below (before-right b) 13 ≡ true
+unfolding days-in
+befores-right true = refl
+befores-right false = refl
+
+pub before-at : (y k : ℕ) → k ≤ 12 → getD befores k 0 + (if leap y && ltb 1 k then 1 else 0) ≡ days-in k (month-lengths y)
+before-at y k h = rw lengths-are (eqb-true _ _ (passed (before-right (leap y)) 13 k (befores-right (leap y)) (omega arith)))
+
+pub before-most : (k : ℕ) → getD befores k 0 ≤ 365
+before-most k = within-all 365 befores k refl
+
+pub leap-day-most : (counts : Bool) → (if counts then 1 else 0) ≤ 1
+leap-day-most true = omega arith
+leap-day-most false = omega arith
+
+-- the months' names, three letters each
+abbrev pub names : List ℕ
+names = bytes "JANFEBMARAPRMAYJUNJULAUGSEPOCTNOVDEC"
+
+-- three letters of it
+abbrev pub three : ℕ → List ℕ
+three k = getD names (3 * k) 0 ∷ getD names (3 * k + 1) 0 ∷ getD names (3 * k + 2) 0 ∷ []
+
+pub same-bytes-eq : (xs ys : List ℕ) → same-bytes xs ys ≡ true → xs ≡ ys
+unfolding same-bytes
+same-bytes-eq [] [] t = refl
+same-bytes-eq [] (y ∷ ys) t = absurd (false≢true t)
+same-bytes-eq (x ∷ xs) [] t = absurd (false≢true t)
+same-bytes-eq (x ∷ xs) (y ∷ ys) t =
+    let p = both (eqb x y) (same-bytes xs ys) t in
+    ap₂ (λ (z : ℕ) (zs : List ℕ). z ∷ zs) (eqb-true x y (p .0)) (same-bytes-eq xs ys (p .1))
+
+names-right : below (λ k. same-bytes (getD month-names k []) (three k)) 12 ≡ true
+unfolding bytes month-names same-bytes
+names-right = refl
+
+pub name-at : (k : ℕ) → k < 12 → getD month-names k [] ≡ three k
+name-at k h =
+    same-bytes-eq (getD month-names k []) (three k) (passed (λ k. same-bytes (getD month-names k []) (three k)) 12 k names-right h)
+
+parts-right : below (λ k. same-bytes (take 3 (drop (3 * k) names)) (getD month-names k [])) 12 ≡ true
+unfolding bytes month-names same-bytes
+parts-right = refl
+
+pub part-at : (k : ℕ) → k < 12 → take 3 (drop (3 * k) names) ≡ getD month-names k []
+part-at k h =
+    same-bytes-eq (take 3 (drop (3 * k) names)) (getD month-names k [])
+    (passed (λ k. same-bytes (take 3 (drop (3 * k) names)) (getD month-names k [])) 12 k parts-right h)

@@ -1,0 +1,290 @@
+-- The readers of a typed date, piece by piece: each is what its first digit, letter or separator decides. Assumes nothing.
+use Prim.Native.Nat.{ℕ, zero, suc, _+_, _-_, _*_, _≤_, _<_}
+use mathlib.Core.Path.{_≡_, refl, _∙_, ap}
+use mathlib.Core.Bool.{Bool, true, false, and-false}
+use mathlib.Core.List.{[], _∷_}
+use mathlib.Core.Option.{Option, none, some}
+use native.Mathlib.Numerals.{add-one}
+use native.Mathlib.Omega.{arith}
+use lib.ListN.{length, drop, getD, length-drop, drop-of-length-le}
+use lib.Seq.{drop-cons}
+use lib.Dec.{leb}
+use borrow.Author.Tests.{le-leb, lt-leb, lt-ltb, eq-eqb, ne-eqb}
+use Rattle.paper.specs.Bytes.{Bytes, if_then_else_, is-digit, is-lower, digit-value}
+use Rattle.paper.specs.Texts.{raised}
+use Rattle.paper.specs.Grammar.{Reader, follow, all-read, ahead, this, numeral, more-digits}
+use Rattle.dates.specs.declared.Read.{Read}
+use Rattle.dates.specs.declared.Read.the-variants.{Nothing, Found}
+use Rattle.dates.specs.Scans.{found, Within, further, parting, second, ordered, dated, form, day-of}
+use Rattle.paper.specs.Refusals.{given}
+use Rattle.paper.specs.Numbers.{plus, natural, signed}
+use Rattle.paper.specs.Dates.{Date, days-to, day-zero}
+use Rattle.dates.specs.declared.TypedDay.{TypedDay}
+use Rattle.dates.specs.declared.TypedDay.the-variants.{Day, Refused}
+use Rattle.dates.specs.Dated.{typed-of}
+use Rattle.paper.specs.TypedDates.{typed-digit, typed-pair, typed-year, typed-form, in-calendar, typed, century}
+
+-- what a call that found something has read, and within which bounds
+pub record Seen (x : Option (ℕ × Bytes)) (most : ℕ) (text : Bytes) (value next : ℕ) : Type 0 where
+  pub reads : x ≡ some (value, drop next text)
+  pub small : value ≤ most
+  pub inside : next ≤ length text
+
+pub seen : {x : Option (ℕ × Bytes)} {most : ℕ} {text : Bytes} (r : Read) {value next : ℕ}
+    → (x ≡ found text r) × Within most text r → r ≡ Found value next → Seen x most text value next
+unfolding found
+seen {x} {most} {text} r e f =
+    let w = rw f at (e .1) in
+    record { reads = e .0 ∙ ap (found text) f; small = w .0; inside = w .1 }
+
+-- and one that found nothing
+pub unseen : {x : Option (ℕ × Bytes)} (text : Bytes) (r : Read) → x ≡ found text r → r ≡ Nothing → x ≡ none
+unfolding found
+unseen text r e f = e ∙ ap (found text) f
+
+pub within-more : {m n : ℕ} (text : Bytes) (r : Read) → m ≤ n → Within m text r → Within n text r
+within-more text Nothing h w = tt
+within-more text (Found value next) h w = (omega arith, w .1)
+
+-- the bytes that are digits, and those below and above them
+digit-within : (b : ℕ) → 48 ≤ b → b ≤ 57 → is-digit b ≡ true
+unfolding is-digit
+digit-within b h k = simp (le-leb 48 b h, le-leb b 57 k)
+
+digit-below : (b : ℕ) → b < 48 → is-digit b ≡ false
+unfolding is-digit
+digit-below b h = simp (lt-leb 48 b h)
+
+digit-above : (b : ℕ) → 57 < b → is-digit b ≡ false
+unfolding is-digit
+digit-above b h = simp (lt-leb b 57 h, and-false)
+
+-- a digit at a place, and its lack
+pub further-end : (n : ℕ) (text : Bytes) (at : ℕ) → at ≡ length text → further n (drop at text) ≡ none
+unfolding further typed-digit numeral
+further-end n text at h = rw (drop-of-length-le text {i = at} (omega arith))
+
+pub further-here : (n : ℕ) (text : Bytes) (at : ℕ) → at < length text → 48 ≤ getD text at 0 → getD text at 0 ≤ 57
+    → further n (drop at text) ≡ some (n * 10 + (getD text at 0 - 48), drop (at + 1) text)
+unfolding further typed-digit numeral more-digits digit-value
+further-here n text at h l k = rw (drop-cons text at 0 h, digit-within _ l k, add-one)
+
+further-not : (n : ℕ) (text : Bytes) (at : ℕ) → at < length text → is-digit (getD text at 0) ≡ false → further n (drop at text) ≡ none
+unfolding further typed-digit numeral
+further-not n text at h t = rw (drop-cons text at 0 h, t)
+
+pub further-less : (n : ℕ) (text : Bytes) (at : ℕ) → at < length text → getD text at 0 < 48 → further n (drop at text) ≡ none
+further-less n text at h l = further-not n text at h (digit-below _ l)
+
+pub further-more : (n : ℕ) (text : Bytes) (at : ℕ) → at < length text → 57 < getD text at 0 → further n (drop at text) ≡ none
+further-more n text at h l = further-not n text at h (digit-above _ l)
+
+-- a reader that looks for a digit goes on as one digit more decides
+abbrev pub either : {A : Type 0} → Option (ℕ × Bytes) → (ℕ → Reader A) → Option (A × Bytes) → Option (A × Bytes)
+either none k other = other
+either (some r) k other = k (r .0) (r .1)
+
+ahead-further : {A : Type 0} (n : ℕ) (k : ℕ → Reader A) (other : Reader A) (bs : Bytes)
+    → ahead is-digit (λ b. k (n * 10 + digit-value b)) other bs ≡ either (further n bs) k (other bs)
+unfolding further typed-digit numeral more-digits
+ahead-further n k other [] = refl
+ahead-further n k other (b ∷ bs) = go (is-digit b)
+  where
+    go : (t : Bool) → (if t then k (n * 10 + digit-value b) bs else other (b ∷ bs))
+        ≡ either (follow (if t then some (digit-value b, bs) else none) (λ d end. some (n * 10 + d, end))) k (other (b ∷ bs))
+    go true = refl
+    go false = refl
+
+follow-same : {A B : Type 0} (r : Option (A × Bytes)) (k k′ : A → Reader B)
+    → ((v : A) (rest : Bytes) → k v rest ≡ k′ v rest) → follow r k ≡ follow r k′
+follow-same none k k′ e = refl
+follow-same (some r) k k′ e = e (r .0) (r .1)
+
+-- the first digit
+digit-first : (bs : Bytes) → typed-digit bs ≡ further 0 bs
+unfolding further
+digit-first bs = go (typed-digit bs)
+  where
+    go : (r : Option (ℕ × Bytes)) → r ≡ follow r (λ d end. some (0 * 10 + d, end))
+    go none = refl
+    go (some r) = ap (λ (v : ℕ). some (v, r .1)) (omega arith)
+
+-- "one or two digits"
+abbrev pub pair-after : ℕ → Reader ℕ
+pair-after a rest = either (further a rest) (λ v end. some (v, end)) (some (a, rest))
+
+numeral-first : (bs : Bytes) → numeral 1 bs ≡ follow (typed-digit bs) (more-digits 1)
+unfolding numeral typed-digit more-digits
+numeral-first [] = refl
+numeral-first (b ∷ bs) = go (is-digit b)
+  where
+    go : (t : Bool) → (if t then more-digits 1 (digit-value b) bs else none)
+        ≡ follow (if t then some (digit-value b, bs) else none) (more-digits 1)
+    go true = refl
+    go false = refl
+
+second-digit : (a : ℕ) (rest : Bytes) → more-digits 1 a rest ≡ pair-after a rest
+unfolding more-digits
+second-digit a rest = ahead-further a (λ v end. some (v, end)) (λ end. some (a, end)) rest
+
+pub pair-is : (bs : Bytes) → typed-pair bs ≡ follow (further 0 bs) pair-after
+unfolding typed-pair
+pair-is bs =
+    numeral-first bs
+    ∙ ap (λ (r : Option (ℕ × Bytes)). follow r (more-digits 1)) (digit-first bs)
+    ∙ follow-same (further 0 bs) (more-digits 1) pair-after second-digit
+
+-- "a year of 2 or 4 digits"
+abbrev pub year-after : ℕ → Reader ℕ
+year-after y rest = either (further y rest) further (some (century y, rest))
+
+digit-further : (a : ℕ) (k : ℕ → Reader ℕ) (rest : Bytes) → follow (typed-digit rest) (λ b. k (a * 10 + b)) ≡ follow (further a rest) k
+unfolding further
+digit-further a k rest = go (typed-digit rest)
+  where
+    go : (r : Option (ℕ × Bytes)) → follow r (λ b. k (a * 10 + b)) ≡ follow (follow r (λ b end. some (a * 10 + b, end))) k
+    go none = refl
+    go (some r) = refl
+
+-- what follows the first two digits
+abbrev year-ahead : ℕ → Reader ℕ
+year-ahead y = ahead is-digit (λ c. further (y * 10 + digit-value c)) (λ rest. some (century y, rest))
+
+pub year-is : (bs : Bytes) → typed-year bs ≡ follow (further 0 bs) (λ a rest. follow (further a rest) year-after)
+unfolding typed-year further
+year-is bs =
+    ap (λ (r : Option (ℕ × Bytes)). follow r (λ a rest. follow (typed-digit rest) (λ b. year-ahead (a * 10 + b)))) (digit-first bs)
+    ∙ follow-same (further 0 bs) _ (λ a rest. follow (further a rest) year-after)
+    (λ a rest. digit-further a year-ahead rest
+    ∙ follow-same (further a rest) year-ahead year-after (λ y end. ahead-further y further (λ rest. some (century y, rest)) end))
+
+pub late-century : (y : ℕ) → 30 ≤ y → 1900 + y ≡ century y
+unfolding century
+late-century y h = rw (le-leb 30 y h)
+
+pub early-century : (y : ℕ) → y < 30 → 2000 + y ≡ century y
+unfolding century
+early-century y h = rw (lt-leb 30 y h)
+
+-- "in either case"
+pub raise-small : (b : ℕ) → 97 ≤ b → b ≤ 122 → b - 32 ≡ raised b
+unfolding raised is-lower
+raise-small b h k = rw (le-leb 97 b h, le-leb b 122 k)
+
+pub raise-below : (b : ℕ) → b < 97 → b ≡ raised b
+unfolding raised is-lower
+raise-below b h = rw (lt-leb 97 b h)
+
+pub raise-above : (b : ℕ) → 122 < b → b ≡ raised b
+unfolding raised is-lower
+raise-above b h = rw (lt-leb b 122 h, and-false)
+
+-- the answers of `parted`
+pub parting-end : (s value : ℕ) (text : Bytes) (next : ℕ) → next ≡ length text → parting s value (drop next text) ≡ none
+unfolding parting this
+parting-end s value text next h = rw (drop-of-length-le text {i = next} (omega arith))
+
+pub parting-here : (s value : ℕ) (text : Bytes) (next : ℕ) → next < length text → s ≡ getD text next 0
+    → parting s value (drop next text) ≡ some (value, drop (next + 1) text)
+unfolding parting this
+parting-here s value text next h e = rw (drop-cons text next 0 h, eq-eqb s (getD text next 0) e, add-one)
+
+pub parting-other : (s value : ℕ) (text : Bytes) (next : ℕ) → next < length text → (s ≡ getD text next 0 → ⊥)
+    → parting s value (drop next text) ≡ none
+unfolding parting this
+parting-other s value text next h e = rw (drop-cons text next 0 h, ne-eqb s (getD text next 0) e)
+
+-- a piece and its separator
+parting-then : {B : Type 0} (s : ℕ) (r : Option (ℕ × Bytes)) (k : ℕ → Reader B)
+    → follow r (λ x bs. follow (this s bs) (λ _. k x)) ≡ follow (follow r (parting s)) k
+unfolding parting
+parting-then s none k = refl
+parting-then {B} s (some r) k = go (this s (r .1))
+  where
+    go : (e : Option (Unit {0} × Bytes)) → follow e (λ _. k (r .0)) ≡ follow (follow e (λ _ end. some (r .0, end))) k
+    go none = refl
+    go (some e) = refl
+
+-- what follows the first piece
+abbrev pub second-piece : Bool → ℕ → ℕ → Reader Date
+second-piece letters s a rest = follow (follow (second letters rest) (parting s)) (λ b end. follow (typed-year end) (dated letters a b))
+
+pub form-is : (letters : Bool) (s : ℕ) (text : Bytes) → form letters s text ≡ follow (follow (typed-pair text) (parting s)) (second-piece letters s)
+unfolding form dated
+form-is letters s text =
+    follow-same (typed-pair text) _ _
+    (λ a rest. follow-same (this s rest) _ _ (λ _ bs. parting-then s (second letters bs) (λ b end. follow (typed-year end) (dated letters a b))))
+    ∙ parting-then s (typed-pair text) (second-piece letters s)
+
+-- without a separator the month has letters and blanks part the pieces
+pub form-blank : (text : Bytes) → form true 32 text ≡ typed-form none text
+unfolding form second ordered typed-form
+form-blank text = refl
+
+pub form-byte : (s : ℕ) (text : Bytes) → form false s text ≡ typed-form (some s) text
+unfolding form second ordered typed-form
+form-byte s text = refl
+
+-- a piece whose separator was asked for
+pub joined : {x : Option (ℕ × Bytes)} (text : Bytes) (r p : Read) (s : ℕ) → x ≡ found text r
+    → follow (found text r) (parting s) ≡ found text p → follow x (parting s) ≡ found text p
+joined text r p s e f = rw e f
+
+-- the answers of `ended`
+pub ended-short : (text : Bytes) (letters : Bool) (a b year next : ℕ) → next < length text
+    → all-read (follow (some (year, drop next text)) (dated letters a b)) ≡ none
+unfolding dated
+ended-short text letters a b year next h = rw (length-drop, ne-eqb (length text - next) 0 (omega arith))
+
+pub ended-whole : (text : Bytes) (letters : Bool) (a b year next : ℕ) → length text ≤ next
+    → all-read (follow (some (year, drop next text)) (dated letters a b)) ≡ some (ordered letters a b year)
+unfolding dated
+ended-whole text letters a b year next h = rw (length-drop, eq-eqb (length text - next) 0 (omega arith))
+
+pub ordered-year : (letters : Bool) (a b year : ℕ) → ordered letters a b year .year ≡ year
+unfolding ordered
+ordered-year true a b year = refl
+ordered-year false a b year = refl
+
+-- the answers of `from_zero` and `day_of`
+pub day-after : (n : ℕ) → 718_430 ≤ n → Day false (n - 718_430) ≡ typed-of (given (plus (natural n) (signed true day-zero)))
+unfolding typed-of plus natural signed
+day-after n h = rw (le-leb 718_430 n h)
+
+pub day-before : (n : ℕ) → n < 718_430 → Day true (718_430 - n) ≡ typed-of (given (plus (natural n) (signed true day-zero)))
+unfolding typed-of plus natural signed
+day-before n h = rw (lt-leb 718_430 n h, lt-ltb 0 (718_430 - n) (omega arith))
+
+pub day-known : (d : Date) (n : ℕ) (r : TypedDay) → in-calendar d ≡ true → n ≡ days-to d
+    → r ≡ typed-of (given (plus (natural n) (signed true day-zero))) → r ≡ day-of (some d)
+unfolding day-of
+day-known d n r t e h = rw (t, ← e) h
+
+pub day-unknown : (d : Date) → in-calendar d ≡ false → Refused 12 ≡ day-of (some d)
+unfolding day-of typed-of
+day-unknown d t = rw t
+
+pub day-none : Refused 12 ≡ day-of none
+unfolding day-of typed-of
+day-none = refl
+
+-- the answers of `typed_date`
+pub typed-zero : (n : ℕ) (s : Option ℕ) (text : Bytes) → n ≡ 0 → Refused 12 ≡ typed-of (typed n s text)
+unfolding typed-of typed
+typed-zero n s text h = rw h
+
+typed-any : (n : ℕ) (s : Option ℕ) (text : Bytes) (r : TypedDay) → (n ≡ 0 → ⊥) → r ≡ day-of (all-read (typed-form s text))
+    → r ≡ typed-of (typed n s text)
+unfolding typed day-of
+typed-any zero s text r h e = absurd (h refl)
+typed-any (suc n) s text r h e = e ∙ go (all-read (typed-form s text)) refl
+  where
+    go : (d : Option Date) → all-read (typed-form s text) ≡ d → day-of d ≡ typed-of (typed (suc n) s text)
+    go none e = rw e
+    go (some d) e = rw e
+
+pub typed-absent : (n : ℕ) (text : Bytes) (r : TypedDay) → (n ≡ 0 → ⊥) → r ≡ day-of (all-read (form true 32 text)) → r ≡ typed-of (typed n none text)
+typed-absent n text r h e = typed-any n none text r h (rw form-blank at e)
+
+pub typed-byte : (n s : ℕ) (text : Bytes) (r : TypedDay) → (n ≡ 0 → ⊥) → r ≡ day-of (all-read (form false s text)) → r ≡ typed-of (typed n (some s) text)
+typed-byte n s text r h e = typed-any n (some s) text r h (rw form-byte at e)

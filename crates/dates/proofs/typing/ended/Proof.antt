@@ -1,0 +1,56 @@
+-- `typing::ended` asks for the text's end where the definition does. Assumes nothing.
+use Prim.Native.Nat.{ℕ}
+use mathlib.Core.Path.{_≡_, refl}
+use borrow.Author.Needs.{needs}
+use Rattle.dates.specs.declared.Read.the-variants.{Found}
+use Rattle.dates.specs.Scans.{found}
+use Rattle.dates.proofs.TypingLaws.{Seen, seen, ended-short, ended-whole, ordered-year, day-none}
+use Rattle.dates.proofs.typing.ended.Statement.{statement}
+use Rattle.dates.proofs.typing.ended.Tie as tie
+
+-- the year that was read
+part : (c : tie.Start) {value next : ℕ} → c .args .year ≡ Found value next
+    → Seen (found (c .args .text .now) (c .args .year)) 9_999 (c .args .text .now) value next
+part c f = seen (c .args .year) (refl, c .pre) f
+
+returns : tie.Need-returns
+unfolding found
+returns c = rw (c .enum-told .given .1) day-none
+
+returns-2 : tie.Need-returns-2
+returns-2 c =
+    let start = c .before .before .before .before .before in
+    let y = c .before .before .year in
+    rw (
+      part start (y .given .1) .reads,
+      ended-short (start .args .text .now) (start .args .letters) (start .args .a) (start .args .b) (y .given .0 .0) (y .given .0 .1 .0) (c .if1 .taken),
+    )
+    day-none
+
+day-of-requires : tie.Need-day-of-requires
+day-of-requires c κs =
+    let start = c .before .before .before .before .before .before in
+    let y = c .before .before .before .year in
+    rw (c .ordered .ensures, ordered-year (start .args .letters) (start .args .a) (start .args .b) (y .given .0 .0)) (part start (y .given .1) .small)
+
+returns-3 : tie.Need-returns-3
+returns-3 c =
+    let start = c .before .before .before .before .before .before .before in
+    let y = c .before .before .before .before .year in
+    rw (
+      part start (y .given .1) .reads,
+      ended-whole (start .args .text .now) (start .args .letters) (start .args .a) (start .args .b) (y .given .0 .0) (y .given .0 .1 .0) (c .before .before .if1 .left),
+    )
+    (rw (c .before .ordered .ensures) at (c .day-of .ensures))
+
+pub ended-spec : {M : Type 1} → statement M
+ended-spec =
+    tie.close
+    (tie.spec
+    (λ c. search needs)
+    (λ c. search needs)
+    returns
+    returns-2
+    (λ c κs. search needs)
+    day-of-requires
+    returns-3)

@@ -1,0 +1,8 @@
+pub mod FormLaws
+pub mod GroupLaws
+pub mod LaidLaws
+pub mod LayoutLaws
+pub mod MaskLaws
+pub mod PieceLaws
+pub mod ScalingLaws
+pub mod Settled

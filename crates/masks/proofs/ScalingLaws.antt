@@ -1,0 +1,89 @@
+-- Rounding and scaling within the range. Assumes nothing.
+use mathlib.Core.Path.{_≡_, refl, sym, ap, _∙_}
+use mathlib.Core.Bool.{Bool, true, false}
+use Prim.Native.Nat.{ℕ, _+_, _-_, _*_, _/_, _%_, _^_, _≤_, _<_}
+use native.Mathlib.Nat.{mul-one, mod-one, div-one, div-add-mod, mul-le-mul-right, pow-le-pow-right, le-div-iff-mul-le, div-lt-iff-lt-mul}
+use native.Mathlib.Omega.{arith}
+use lib.Dec.{leb, ltb}
+use borrow.Author.Tests.{le-leb, lt-leb, leb-true, ltb-true}
+use Rattle.paper.specs.Bytes.{if_then_else_}
+use Rattle.paper.specs.Sizes.{number-most}
+use Rattle.paper.specs.Masks.{rounded}
+use Rattle.paper.proofs.Numerals.{pow-pos}
+use Rattle.masks.specs.declared.scaling.Scaling.{Scaling}
+use Rattle.masks.specs.Scaling.{scaling-of}
+
+-- rounding never makes a size larger: a half that is dropped is at least one
+pub rounded-below : (negative : Bool) (size over : ℕ) → 0 < over → rounded negative size over ≤ size
+unfolding rounded
+rounded-below negative size over some = go negative
+  where
+    parts : over * (size / over) + size % over ≡ size
+    parts = div-add-mod size over
+
+    least : size / over ≤ over * (size / over)
+    least = omega (arith, mul-le-mul-right (size / over) some)
+
+    pick : (t : Bool) → (t ≡ true → over ≤ 2 * (size % over)) → (if t then size / over + 1 else size / over) ≤ size
+    pick true h = omega (arith, h refl, parts, least)
+    pick false h = omega (arith, parts, least)
+
+    go : (t : Bool) → (if (if t then ltb over (2 * (size % over)) else leb over (2 * (size % over))) then size / over + 1 else size / over) ≤ size
+    go true = pick (ltb over (2 * (size % over))) (λ e. omega (arith, ltb-true over (2 * (size % over)) e))
+    go false = pick (leb over (2 * (size % over))) (λ e. leb-true over (2 * (size % over)) e)
+
+-- nothing is dropped over one
+rounded-one : (negative : Bool) (size : ℕ) → rounded negative size 1 ≡ size
+unfolding rounded
+rounded-one true size = rw (mod-one size, div-one size)
+rounded-one false size = rw (mod-one size, div-one size)
+
+-- by the test that the code makes first
+pub rounded-by : (negative up : Bool) (size over : ℕ)
+    → up ≡ (if negative then ltb over (2 * (size % over)) else leb over (2 * (size % over)))
+    → (if up then size / over + 1 else size / over) ≡ rounded negative size over
+unfolding rounded
+rounded-by negative up size over e = ap (λ (t : Bool). if t then size / over + 1 else size / over) e
+
+pub power-within : (k : ℕ) → k ≤ 9 → (0 < 10 ^ k) × (10 ^ k ≤ number-most)
+power-within k h = (pow-pos k, omega (arith, pow-le-pow-right {n = 10} (omega arith) {i = k} {j = 9} h))
+
+-- a size times a power of ten is in range by the quotient
+pub times-within : (size times k : ℕ) → times ≡ 10 ^ k → size ≤ number-most / times → size * times ≤ number-most
+times-within size times k e h = let some : 0 < times = rw e (pow-pos k) in le-div-iff-mul-le some .0 h
+
+times-beyond : (size times k : ℕ) → times ≡ 10 ^ k → number-most / times < size → number-most < size * times
+times-beyond size times k e h = let some : 0 < times = rw e (pow-pos k) in div-lt-iff-lt-mul some .0 h
+
+sized : (n : ℕ) → n ≤ number-most → Scaling.Size n ≡ scaling-of n
+unfolding scaling-of
+sized n h = rw (le-leb n number-most h)
+
+too-large : (n : ℕ) → number-most < n → Scaling.TooLarge ≡ scaling-of n
+unfolding scaling-of
+too-large n h = rw (lt-leb n number-most h)
+
+module _ (negative : Bool) (size decimals scale : ℕ) where
+  -- m at least n: digits are dropped
+  pub scaled-down : (r over : ℕ) → size ≤ number-most → decimals ≤ scale → over ≡ 10 ^ (scale - decimals) → r ≡ rounded negative size over
+      → Scaling.Size r ≡ scaling-of (rounded negative (size * 10 ^ (decimals - scale)) (10 ^ (scale - decimals)))
+  scaled-down r over ranged h e f =
+      let none : decimals - scale ≡ 0 = omega arith in
+      let below : rounded negative size (10 ^ (scale - decimals)) ≤ size = rounded-below negative size (10 ^ (scale - decimals)) (pow-pos (scale - decimals)) in
+      let same : r ≡ rounded negative size (10 ^ (scale - decimals)) = f ∙ ap (rounded negative size) e in
+      rw (same, none, mul-one size) (sized (rounded negative size (10 ^ (scale - decimals))) (omega arith))
+
+  -- n over m: digits are added
+  added : (times : ℕ) → scale ≤ decimals → times ≡ 10 ^ (decimals - scale)
+      → size * times ≡ rounded negative (size * 10 ^ (decimals - scale)) (10 ^ (scale - decimals))
+  added times h e =
+      let none : scale - decimals ≡ 0 = omega arith in
+      rw (none, e) (sym (rounded-one negative (size * 10 ^ (decimals - scale))))
+
+  pub scaled-up : (times : ℕ) → scale ≤ decimals → times ≡ 10 ^ (decimals - scale) → size ≤ number-most / times
+      → Scaling.Size (size * times) ≡ scaling-of (rounded negative (size * 10 ^ (decimals - scale)) (10 ^ (scale - decimals)))
+  scaled-up times h e within = sized (size * times) (times-within size times (decimals - scale) e within) ∙ ap scaling-of (added times h e)
+
+  pub scaled-beyond : (times : ℕ) → scale ≤ decimals → times ≡ 10 ^ (decimals - scale) → number-most / times < size
+      → Scaling.TooLarge ≡ scaling-of (rounded negative (size * 10 ^ (decimals - scale)) (10 ^ (scale - decimals)))
+  scaled-beyond times h e beyond = too-large (size * times) (times-beyond size times (decimals - scale) e beyond) ∙ ap scaling-of (added times h e)

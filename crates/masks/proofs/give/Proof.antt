@@ -1,0 +1,80 @@
+-- `give` meets its contract: an empty element, no number, one out of range, or what the number gives. Assumes nothing.
+use mathlib.Core.Path.{refl, sym, _∙_}
+use mathlib.Core.List.{[]}
+use borrow.Author.Needs.{needs}
+use native.Mathlib.Omega.{arith}
+use Rattle.paper.specs.Sizes.{entry-most}
+use Rattle.paper.specs.Masks.{number-masked, mask-gives}
+use Rattle.codes.specs.Meaning.{mask-of}
+use Rattle.masks.proofs.FormLaws.{nothing, no-number, too-large, a-number}
+use Rattle.masks.proofs.LayoutLaws.{same-answer, refuses, gives}
+use Rattle.masks.proofs.MaskLaws.{mask-limited}
+use Rattle.masks.proofs.give.Statement.{statement}
+use Rattle.masks.proofs.give.Tie as tie
+
+returns : tie.Need-returns
+unfolding mask-gives
+returns c =
+    let start = c .before .before .before in
+    let a = start .args in
+    let k = mask-of (a .mask) in
+    same-answer (a .out .now) (sym (mask-limited k (a .e .now) (start .pre .1)))
+    (gives (mask-gives k (a .e .now)) [] (a .out .now) (a .out .now) 0 (nothing (number-masked k) (a .e .now) (c .if1 .taken)) refl refl)
+
+number-masked-requires : tie.Need-number-masked-requires
+unfolding entry-most
+number-masked-requires c κs =
+    let found = c .before .before .x .given in
+    let reads = c .before .before .before .before in
+    let start = reads .before .before .before .before in
+    let a = start .args in
+    let read = a-number (number-masked (mask-of (a .mask))) (a .e .now) (reads .before .if1 .left) (found .0 .0) (found .1) (reads .form .ensures) in
+    (read .1, omega (arith, start .pre), start .pre .1)
+
+returns-2 : tie.Need-returns-2
+unfolding mask-gives
+returns-2 c =
+    let reads = c .before .before in
+    let start = reads .before .before .before .before in
+    let a = start .args in
+    let k = mask-of (a .mask) in
+    same-answer (a .out .now) (sym (mask-limited k (a .e .now) (start .pre .1)))
+    (refuses (mask-gives k (a .e .now)) 12 (a .out .now)
+    (no-number (number-masked k) (a .e .now) (reads .before .if1 .left) (c .enum-told .given .1) (reads .form .ensures)))
+
+returns-3 : tie.Need-returns-3
+unfolding mask-gives
+returns-3 c =
+    let reads = c .before .before in
+    let start = reads .before .before .before .before in
+    let a = start .args in
+    let k = mask-of (a .mask) in
+    same-answer (a .out .now) (sym (mask-limited k (a .e .now) (start .pre .1)))
+    (refuses (mask-gives k (a .e .now)) 10 (a .out .now)
+    (too-large (number-masked k) (a .e .now) (reads .before .if1 .left) (c .enum-told2 .given .1) (reads .form .ensures)))
+
+returns-4 : tie.Need-returns-4
+unfolding mask-gives
+returns-4 c =
+    let found = c .before .before .before .before .before .x .given in
+    let reads = c .before .before .before .before .before .before .before in
+    let start = reads .before .before .before .before in
+    let a = start .args in
+    let k = mask-of (a .mask) in
+    let read = a-number (number-masked k) (a .e .now) (reads .before .if1 .left) (found .0 .0) (found .1) (reads .form .ensures) in
+    same-answer (a .out .now) (read .0 ∙ sym (mask-limited k (a .e .now) (start .pre .1))) (c .before .before .number-masked .ensures)
+
+pub give-spec : {M : Type 1} → statement M
+give-spec =
+    tie.close
+    (tie.spec
+    returns
+    (λ c κs. search needs)
+    (λ c. search needs)
+    (λ c. search needs)
+    (λ c. search needs)
+    number-masked-requires
+    returns-2
+    returns-3
+    (λ c. search needs)
+    returns-4)

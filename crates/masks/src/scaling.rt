@@ -1,0 +1,44 @@
+// "The element over ten to the m is shown with n decimals": the size of the scaled number.
+use numbers::writing;
+use paper::Limit;
+ghost use mathlib.Core.Path.{_≡_};
+ghost use Prim.Native.Nat.{_*_, _-_, _^_, _≤_, _<_};
+ghost use Rattle.paper.specs.Sizes.{number-most};
+ghost use Rattle.paper.specs.Masks.{rounded};
+ghost use Rattle.masks.specs.Scaling.{scaling-of};
+
+// A scaled size in range, or one out of it.
+pub(crate) enum Scaling {
+    Size(u64),
+    TooLarge,
+}
+
+// a size over ten to the m, with n decimals; one out of range is never made
+pub(crate) fn scaled(negative: bool, size: u64, decimals: u64, scale: u64) -> Scaling
+    requires { ⌜ (size ≤ number-most) × (decimals ≤ 9) × (scale ≤ 9) ⌝ }
+    ensures { λ r. ⌜ r ≡ scaling-of (rounded negative (size * 10 ^ (decimals - scale)) (10 ^ (scale - decimals))) ⌝ }
+{
+    if decimals <= scale {
+        let over = writing::power((scale - decimals) as usize);
+        return Scaling::Size(rounded(negative, size, over));
+    }
+    let times = writing::power((decimals - scale) as usize);
+    if Limit::NUMBER / times < size {
+        return Scaling::TooLarge;
+    }
+    Scaling::Size(size * times)
+}
+
+// "dropped digits round to nearest, halves toward plus infinity"
+fn rounded(negative: bool, size: u64, over: u64) -> u64
+    requires { ⌜ (size ≤ number-most) × (0 < over) × (over ≤ number-most) ⌝ }
+    ensures { λ r. ⌜ r ≡ rounded negative size over ⌝ }
+{
+    let twice = 2 * (size % over);
+    let up = if negative {
+        over < twice
+    } else {
+        over <= twice
+    };
+    if up { size / over + 1 } else { size / over }
+}

@@ -1,0 +1,7 @@
+pub mod Table
+pub mod ReadingLaws
+pub mod WritingLaws
+pub mod ComparingLaws
+pub mod ReckoningLaws
+pub mod EntryLaws
+pub mod Settled

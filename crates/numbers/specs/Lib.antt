@@ -1,0 +1,5 @@
+pub mod Forms
+pub mod Orders
+pub mod Operators
+pub mod Reckonings
+pub mod Scans

@@ -1,0 +1,110 @@
+// Relations (001, 4.5): as numbers when both have numeric form, else by bytes, a prefix being smaller.
+use crate::Compared;
+use crate::Form;
+use crate::Number;
+use crate::Order;
+use crate::Relation;
+use crate::reading;
+ghost use mathlib.Core.Path.{_≡_};
+ghost use lib.Dec.{ltb};
+ghost use Rattle.paper.specs.Numbers.{below, compared, holds};
+ghost use Rattle.numbers.specs.Forms.{whole};
+ghost use Rattle.numbers.specs.Orders.{order-of, relation-of, compared-gives};
+ghost use Rattle.numbers.specs.Scans.{by-test, bytes-order, rank-of};
+
+// "Relations (001, 4.5) read second against top: as numbers when both have numeric form, else by bytes"
+pub fn compare(second: &[u8], top: &[u8]) -> Compared
+    ensures { λ r. ⌜ compared-gives r ≡ compared (now (second .entry)) (now (top .entry)) ⌝ }
+{
+    match reading::form(second) {
+        Form::NotNumeric => Compared::Ordered(compare_bytes(second, top)),
+        Form::TooLarge => match reading::form(top) {
+            Form::NotNumeric => Compared::Ordered(compare_bytes(second, top)),
+            Form::TooLarge => Compared::Refused(paper::refusal::OUT_OF_RANGE),
+            Form::Number(_) => Compared::Refused(paper::refusal::OUT_OF_RANGE),
+        },
+        Form::Number(x) => match reading::form(top) {
+            Form::NotNumeric => Compared::Ordered(compare_bytes(second, top)),
+            Form::TooLarge => Compared::Refused(paper::refusal::OUT_OF_RANGE),
+            Form::Number(y) => Compared::Ordered(compare_numbers(x, y)),
+        },
+    }
+}
+
+fn compare_numbers(x: Number, y: Number) -> Order
+    ensures { λ r. ⌜ r ≡ by-test (below (whole x) (whole y)) (below (whole y) (whole x)) ⌝ }
+{
+    if below(x, y) {
+        return Order::Less;
+    }
+    if below(y, x) {
+        return Order::More;
+    }
+    Order::Same
+}
+
+fn below(x: Number, y: Number) -> bool
+    ensures { λ r. ⌜ r ≡ below (whole x) (whole y) ⌝ }
+{
+    if x.negative {
+        if y.negative { y.size < x.size } else { true }
+    } else {
+        if y.negative { false } else { x.size < y.size }
+    }
+}
+
+// "else by bytes, a prefix being smaller"
+fn compare_bytes(second: &[u8], top: &[u8]) -> Order
+    ensures { λ r. ⌜ r ≡ bytes-order (now (second .entry)) (now (top .entry)) ⌝ }
+{
+    let mut i = 0;
+    while i < second.len() {
+        if i == top.len() {
+            return Order::More;
+        }
+        let a = second[i];
+        let b = top[i];
+        if a != b {
+            return order(a as usize, b as usize);
+        }
+        i += 1;
+    }
+    order(second.len(), top.len())
+}
+
+fn order(a: usize, b: usize) -> Order
+    ensures { λ r. ⌜ r ≡ by-test (ltb a b) (ltb b a) ⌝ }
+{
+    if a < b {
+        return Order::Less;
+    }
+    if b < a {
+        return Order::More;
+    }
+    Order::Same
+}
+
+// whether the relation that is asked holds: the rank stands to 1 as the second entry to the top
+pub(crate) fn holds(relation: Relation, order: Order) -> bool
+    ensures { λ r. ⌜ r ≡ holds (relation-of relation) (order-of order) ⌝ }
+{
+    let rank = rank(order);
+    match relation {
+        Relation::Equal => rank == 1,
+        Relation::Unequal => rank != 1,
+        Relation::Greater => rank > 1,
+        Relation::Lesser => rank < 1,
+        Relation::AtLeast => rank >= 1,
+        Relation::AtMost => rank <= 1,
+    }
+}
+
+fn rank(order: Order) -> u64
+    ensures { λ r. ⌜ r ≡ rank-of order ⌝ }
+{
+    match order {
+        Order::Less => 0,
+        Order::Same => 1,
+        Order::More => 2,
+    }
+}

@@ -1,0 +1,6 @@
+pub mod Classes
+pub mod Writing
+pub mod Laws
+pub mod Fields
+pub mod Spelling
+pub mod Settled

@@ -1,0 +1,107 @@
+-- A loop that writes an answer in front of a lent buffer, one byte a turn, and what the call then answers: one account for every such loop.
+use mathlib.Core.Path.{_≡_, refl, sym, ap, _∙_}
+use mathlib.Core.List.{[], _∷_, _++_, append-nil}
+use Prim.Native.Nat.{ℕ, _+_, _≤_, _<_, zero-le}
+use native.Mathlib.Numerals.{add-one}
+use native.Mathlib.Omega.{arith}
+use lib.ListN.{length, take, drop, set, length-append, length-set, take-append-drop}
+use lib.Seq.{length-take-le, take-suc-set, append-snoc, drop-set-lt, drop-drop}
+use borrow.Author.Tests.{le-leb, lt-leb}
+use Rattle.paper.specs.Bytes.{Bytes}
+use Rattle.paper.specs.Sizes.{entry-most}
+use Rattle.paper.specs.Refusals.{Res, given, refused, over-long-entry}
+use Rattle.paper.specs.Answers.{given-of, written}
+use Rattle.paper.specs.Steps.{limited}
+use Rattle.paper.specs.declared.Given.the-variants.{Length, Refused}
+
+-- n bytes of `whole` stand in front of what `held` has from there on, and `rest` is still to be written
+pub record Progress (held out : Bytes) (n : ℕ) (rest whole : Bytes) : Type 0 where
+  pub so-far : take n out ++ rest ≡ whole
+  pub behind : drop n out ≡ drop n held
+  pub within : n ≤ length held
+  pub kept : length out ≡ length held
+  pub fits : length whole ≤ length held
+
+pub begun : {held whole : Bytes} → length whole ≤ length held → Progress held held 0 whole whole
+begun fits = record { so-far = refl; behind = refl; within = zero-le; kept = refl; fits = fits }
+
+module _ {held out : Bytes} {n b : ℕ} {rest whole : Bytes} (p : Progress held out n (b ∷ rest) whole) where
+  -- what is still to be written has its place
+  pub room : n < length held
+  room =
+      let t : length (take n out) ≡ n = length-take-le n out (omega arith) in
+      omega (arith, ap length (p .so-far), length-append (take n out) (b ∷ rest))
+
+  pub put : Progress held (set out n b) (n + 1) rest whole
+  put =
+      let r : n < length held = room in
+      let l : n < length out = omega arith in
+      record {
+        so-far = rw (add-one n, take-suc-set out n b l, append-snoc) (p .so-far);
+        behind =
+            rw (drop-set-lt (n + 1) out n b (omega arith), ← drop-drop 1 n out, p .behind) (drop-drop 1 n held);
+        within = omega arith;
+        kept = length-set out n b ∙ p .kept;
+        fits = p .fits;
+      }
+
+-- two bytes a turn
+pub put-pair : {held out : Bytes} {n a b : ℕ} {rest whole : Bytes} → Progress held out n (a ∷ b ∷ rest) whole
+    → Progress held (set (set out n a) (n + 1) b) (n + 2) rest whole
+put-pair {n = n} p =
+    let two : n + 1 + 1 ≡ n + 2 = omega arith in
+    rw two at (put (put p))
+
+-- the same rest by another name
+pub onto : {held out : Bytes} {n : ℕ} {rest other whole : Bytes} → Progress held out n rest whole → rest ≡ other → Progress held out n other whole
+onto p e = rw e at p
+
+module _ {held out : Bytes} {n : ℕ} {whole : Bytes} (p : Progress held out n [] whole) where
+  wrote : take n out ≡ whole
+  wrote = sym (append-nil (take n out)) ∙ p .so-far
+
+  pub counted : n ≡ length whole
+  counted =
+      let t : length (take n out) ≡ n = length-take-le n out (omega (arith, p .kept)) in
+      sym t ∙ ap length wrote
+
+  pub stands : out ≡ whole ++ drop (length whole) held
+  stands = sym (take-append-drop n out) ∙ rw (wrote, p .behind, counted)
+
+-- the answer of a call that has written all that it gives
+pub complete : {held out : Bytes} {n : ℕ} {whole : Bytes} → Progress held out n [] whole
+    → (Length n ≡ given-of (given whole)) × (out ≡ written held (given whole))
+unfolding given-of written
+complete p = (ap Length (counted p), stands p)
+
+-- refusal 9: "element, entry or result over 1,024"
+pub entry-limit : entry-most ≡ 1_024
+unfolding entry-most
+entry-limit = refl
+
+pub allowed : (bs : Bytes) → length bs ≤ entry-most → limited entry-most (given bs) ≡ given bs
+unfolding limited
+allowed bs fits = rw (le-leb (length bs) entry-most fits)
+
+pub over-long : (bs : Bytes) → entry-most < length bs → limited entry-most (given bs) ≡ refused over-long-entry
+unfolding limited
+over-long bs more = rw (lt-leb (length bs) entry-most more)
+
+pub passed-on : (n : ℕ) → limited entry-most (refused n) ≡ refused n
+unfolding limited
+passed-on n = refl
+
+-- the answer of a call that refuses, and leaves the buffer as it was
+pub turned-down : (held : Bytes) {r : Res Bytes} {n : ℕ} → r ≡ refused n → (Refused n ≡ given-of r) × (held ≡ written held r)
+unfolding given-of written
+turned-down held e = rw e (refl, refl)
+
+-- the same over the limit on a result
+pub handed : (held whole : Bytes) {out : Bytes} {r : Res Bytes} → length whole ≤ entry-most → r ≡ given whole → out ≡ whole ++ drop (length whole) held
+    → (Length (length whole) ≡ given-of (limited entry-most r)) × (out ≡ written held (limited entry-most r))
+unfolding given-of written
+handed held whole fits e stand = rw (e, allowed whole fits) (refl, stand)
+
+pub answered : {held out : Bytes} {n : ℕ} {whole : Bytes} {r : Res Bytes} → Progress held out n [] whole → length whole ≤ entry-most → r ≡ given whole
+    → (Length n ≡ given-of (limited entry-most r)) × (out ≡ written held (limited entry-most r))
+answered {whole = whole} p fits e = rw (e, allowed whole fits) (complete p)

@@ -1,0 +1,54 @@
+// Letter classes (document 01: "Letters are ASCII") the case of one byte, and the marks.
+ghost use mathlib.Core.Path.{_≡_};
+ghost use Rattle.paper.specs.Bytes.{is-letter, is-digit};
+ghost use Rattle.paper.specs.Sizes.{is-mark};
+ghost use Rattle.paper.specs.Texts.{raised, lowered};
+use paper::Mark;
+
+pub fn is_letter(b: u8) -> bool
+    ensures { λ r. ⌜ r ≡ is-letter b ⌝ }
+{
+    match b {
+        b'A'..=b'Z' | b'a'..=b'z' => true,
+        _ => false,
+    }
+}
+
+pub fn is_digit(b: u8) -> bool
+    ensures { λ r. ⌜ r ≡ is-digit b ⌝ }
+{
+    match b {
+        b'0'..=b'9' => true,
+        _ => false,
+    }
+}
+
+// A lower-case letter as its capital, any other byte as it is.
+pub fn raise(b: u8) -> u8
+    ensures { λ r. ⌜ r ≡ raised b ⌝ }
+{
+    match b {
+        b'a'..=b'z' => b - 32,
+        _ => b,
+    }
+}
+
+// A capital as its lower-case letter, any other byte as it is.
+pub fn lower(b: u8) -> u8
+    ensures { λ r. ⌜ r ≡ lowered b ⌝ }
+{
+    match b {
+        b'A'..=b'Z' => b + 32,
+        _ => b,
+    }
+}
+
+// "a byte 251 to 255".
+pub fn is_mark(b: u8) -> bool
+    ensures { λ r. ⌜ r ≡ is-mark b ⌝ }
+{
+    match b {
+        Mark::BUFFER..=Mark::SEGMENT => true,
+        _ => false,
+    }
+}
