@@ -1,12 +1,12 @@
 -- The laws of `over`, and of a loop that lays one byte a turn, from the front or from the back.
-use mathlib.Core.Path.{_≡_, refl, sym, ap, _∙_, subst}
+use mathlib.Core.Path.{_≡_, refl, sym, ap, _∙_}
 use mathlib.Core.List.{List, [], _∷_, _++_, append-assoc, append-nil}
-use Prim.Native.Nat.{ℕ, zero, suc, _+_, _-_, _≤_, _<_}
-use native.Mathlib.Nat.{add-zero, add-suc, add-assoc, le-refl}
+use Prim.Native.Nat.{ℕ, suc, _+_, _-_, _≤_, _<_}
+use native.Mathlib.Nat.{add-zero, add-suc, le-refl}
 use native.Mathlib.Numerals.{add-one}
 use native.Mathlib.Omega.{arith}
-use lib.ListN.{length, take, drop, getD, set, replicate, length-append, length-drop, length-set, length-replicate, take-append-drop, List·getD-append}
-use lib.Seq.{take-length, drop-length, take-suc, drop-cons, drop-drop, take-append-le, drop-append-le, drop-at, take-at, set-at, getD-drop, getD-take, append-snoc, length-take-le, paste, paste-zero, paste-suc, length-paste, drop-paste}
+use lib.ListN.{length, take, drop, getD, set, length-append, length-drop, length-set, List·getD-append}
+use lib.Seq.{take-length, drop-length, take-suc, drop-cons, drop-drop, drop-at, take-at, set-at, getD-drop, getD-take, append-snoc, length-take-le, paste, paste-zero, paste-suc, length-paste, drop-paste}
 use Rattle.lent.specs.Over.{over}
 
 -- `over` as it computes, for a caller that has to look into it

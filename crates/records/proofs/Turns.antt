@@ -10,18 +10,14 @@ use lib.Seq.{drop-cons}
 use lib.Dec.{leb, eqb}
 use mir.Val.{Fits}
 use mir.Syntax.{w8}
-use borrow.Author.Tests.{eq-eqb, ne-eqb, le-leb}
+use borrow.Author.Tests.{eq-eqb, ne-eqb, le-leb, lt-leb}
 use Rattle.paper.specs.Bytes.{Bytes, any, within, if_then_else_}
 use Rattle.paper.specs.Sizes.{attribute-mark, buffer-mark, is-mark}
-use Rattle.records.specs.Scan.{range, upto, is-either, skip}
+use Rattle.records.specs.Scan.{range, upto, skip}
 
 -- the byte at a place, and what is behind it
 here : (l : Bytes) (i : ℕ) → i < length l → drop i l ≡ getD l i 0 ∷ drop (i + 1) l
 here l i h = drop-cons l i 0 h ∙ ap (λ (k : ℕ). getD l i 0 ∷ drop k l) (sym (add-one i))
-
-or-assoc : (a b c : Bool) → a || b || c ≡ a || (b || c)
-or-assoc true b c = refl
-or-assoc false b c = refl
 
 or-false : (a : Bool) → a || false ≡ a
 or-false true = refl
@@ -33,29 +29,37 @@ and-true false = refl
 
 -- ---- a test of every byte, without early exit
 
-module _ (p : ℕ → Bool) (text : Bytes) where
-  -- the test of the byte here joins the tests so far
-  pub any-more : (bad : Bool) (i : ℕ) (hit : Bool) → any p text ≡ bad || any p (drop i text) → i < length text → hit ≡ p (getD text i 0) → any p text ≡ bad || hit || any p (drop (i + 1) text)
-  unfolding any
-  any-more bad i hit e h eh =
-      e ∙ ap (λ (l : Bytes). bad || any p l) (here text i h) ∙ ap (λ (t : Bool). bad || (t || any p (drop (i + 1) text))) (sym eh)
-      ∙ sym (or-assoc bad hit (any p (drop (i + 1) text)))
+or-true : (a b : Bool) → a || (true || b) ≡ true
+or-true true b = refl
+or-true false b = refl
 
-  pub any-all : (bad : Bool) (i : ℕ) → any p text ≡ bad || any p (drop i text) → length text ≤ i → bad ≡ any p text
+module _ (p : ℕ → Bool) (text : Bytes) (flag : Bool) (i : ℕ) (e : any p text ≡ flag || any p (drop i text)) where
+  any-here : i < length text → any p text ≡ flag || (p (getD text i 0) || any p (drop (i + 1) text))
   unfolding any
-  any-all bad i e h = sym (e ∙ ap (λ (l : Bytes). bad || any p l) (drop-of-length-le text h) ∙ or-false bad)
+  any-here h = e ∙ ap (λ (l : Bytes). flag || any p l) (here text i h)
 
--- two tests of one byte, one after the other
-pub either-more : (x y b : ℕ) (bad rest : Bool) → bad || is-either x y b || rest ≡ bad || eqb b x || eqb b y || rest
-unfolding is-either
-either-more x y b bad rest = ap (λ (t : Bool). t || rest) (sym (or-assoc bad (eqb b x) (eqb b y)))
+  pub any-hit : i < length text → p (getD text i 0) ≡ true → any p text ≡ true
+  any-hit h t = any-here h ∙ ap (λ (t : Bool). flag || (t || any p (drop (i + 1) text))) t ∙ or-true flag (any p (drop (i + 1) text))
+
+  pub any-miss : i < length text → p (getD text i 0) ≡ false → any p text ≡ flag || any p (drop (i + 1) text)
+  any-miss h t = any-here h ∙ ap (λ (t : Bool). flag || (t || any p (drop (i + 1) text))) t
+
+  pub any-all : length text ≤ i → flag ≡ any p text
+  unfolding any
+  any-all h = sym (e ∙ ap (λ (l : Bytes). flag || any p l) (drop-of-length-le text h) ∙ or-false flag)
 
 -- no byte is above 255
-pub is-mark-byte : (b : ℕ) → Fits w8 b → leb buffer-mark b ≡ is-mark b
+is-mark-byte : (b : ℕ) → Fits w8 b → leb buffer-mark b ≡ is-mark b
 unfolding is-mark
 is-mark-byte b f =
     let small : b ≤ 255 = omega arith in
     sym (ap (λ (t : Bool). leb buffer-mark b && t) (le-leb b 255 small) ∙ and-true (leb buffer-mark b))
+
+pub mark-byte : (b : ℕ) → Fits w8 b → buffer-mark ≤ b → is-mark b ≡ true
+mark-byte b f h = sym (is-mark-byte b f) ∙ le-leb buffer-mark b h
+
+pub plain-byte : (b : ℕ) → Fits w8 b → b < buffer-mark → is-mark b ≡ false
+plain-byte b f h = sym (is-mark-byte b f) ∙ lt-leb buffer-mark b h
 
 -- ---- the first byte within low .. high
 

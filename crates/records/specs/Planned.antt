@@ -39,6 +39,7 @@ unfoldable pub planned : Spot → Res Bytes → Plan
 planned p (given bs) = Ready p (length bs)
 planned p (refused n) = Refused n
 
+-- the answer that a plan stands for
 abbrev pub plan-answer : Plan → Given
 plan-answer (Ready p total) = Length total
 plan-answer (Refused n) = Given-Refused n

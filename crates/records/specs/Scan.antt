@@ -1,4 +1,4 @@
--- How the code walks a record, byte by byte. Furniture for the proofs: proofs/Laws.antt ties each to the definitions of `paper`.
+-- How the code walks a record, byte by byte. Furniture for the proofs: proofs/Laws.antt and proofs/Changing.antt tie each to the definitions of `paper`.
 use Prim.Native.Nat.{ℕ, zero, suc, _+_, _-_}
 use mathlib.Core.Bool.{Bool, _||_}
 use mathlib.Core.List.{[], _∷_, _++_}

@@ -86,31 +86,36 @@ fn skip(item: &[u8], from: usize, mark: u8, n: u64) -> Stop
     Stop { at, left: 0 }
 }
 
-// Whether a byte x or y is there. No early exit, so that it is compiled to SIMD.
+// Whether a byte x or y is there. No early exit and a flag as wide as a byte, so that it is compiled to SIMD.
 fn holds(text: &[u8], x: u8, y: u8) -> bool
     ensures { λ r. ⌜ r ≡ any (is-either x y) (now (text .entry)) ⌝ }
 {
-    let mut bad = false;
+    let mut bad = 0u8;
     let mut i = 0;
     while i < text.len() {
         let b = text[i];
-        bad = bad | (b == x) | (b == y);
         i += 1;
+        if (b == x) | (b == y) {
+            bad = 1;
+        }
     }
-    bad
+    bad != 0
 }
 
-// Whether a byte 251 to 255 is there.
+// Whether a byte 251 to 255 is there, in the same way.
 fn marked(text: &[u8]) -> bool
     ensures { λ r. ⌜ r ≡ any is-mark (now (text .entry)) ⌝ }
 {
-    let mut bad = false;
+    let mut bad = 0u8;
     let mut i = 0;
     while i < text.len() {
-        bad = bad | (Mark::BUFFER <= text[i]);
+        let b = text[i];
         i += 1;
+        if Mark::BUFFER <= b {
+            bad = 1;
+        }
     }
-    bad
+    bad != 0
 }
 
 // Refusal 3: "id over 48 .., or holding 252 or 253". 0 for none.

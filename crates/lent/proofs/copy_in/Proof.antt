@@ -1,5 +1,5 @@
 -- `lent::copy_in` meets its contract: each turn lays one byte more of `src`.
-use Prim.Native.Nat.{ℕ, _-_}
+use Prim.Native.Nat.{_-_}
 use native.Mathlib.Omega.{arith}
 use mathlib.Core.Path.{refl}
 use lib.ListN.{length}

@@ -1,5 +1,5 @@
 -- `lent::copy_up` meets its contract: each turn lays one byte more of what stood at `from`, from the back, and reads it before what it has laid.
-use Prim.Native.Nat.{ℕ, _+_, _-_, _≤_}
+use Prim.Native.Nat.{_+_, _-_}
 use native.Mathlib.Omega.{arith}
 use mathlib.Core.Path.{_≡_, sym, _∙_}
 use denote.Ref.{now}

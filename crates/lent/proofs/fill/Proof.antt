@@ -1,8 +1,8 @@
 -- `lent::fill` meets its contract: each turn lays one byte more of `replicate count b`.
-use Prim.Native.Nat.{ℕ, _-_}
+use Prim.Native.Nat.{_-_}
 use native.Mathlib.Omega.{arith}
 use mathlib.Core.Path.{sym}
-use lib.ListN.{length, replicate, length-replicate, getD-replicate}
+use lib.ListN.{replicate, length-replicate, getD-replicate}
 use Rattle.lent.proofs.Laws.{Laid, laid-none, laid-more, laid-all}
 use Rattle.lent.proofs.fill.Statement.{statement}
 use Rattle.lent.proofs.fill.Tie as tie

@@ -1,30 +1,42 @@
--- `records::marked` meets its contract: the bytes passed have told what they tell, and the rest tells the rest.
+-- `records::marked` meets its contract: the flag has what the bytes passed tell, and the rest tells the rest.
 use Prim.Native.Nat.{_-_, _≤_}
 use mathlib.Core.Path.{_≡_, refl}
-use mathlib.Core.Bool.{_||_}
+use mathlib.Core.Bool.{_||_, not}
 use native.Mathlib.Omega.{arith}
 use lib.ListN.{length, drop}
+use lib.Dec.{eqb}
 use denote.Ref.{now}
 use Rattle.paper.specs.Bytes.{any}
 use Rattle.paper.specs.Sizes.{is-mark}
-use Rattle.records.proofs.Turns.{any-more, any-all, is-mark-byte}
+use Rattle.records.proofs.Turns.{any-hit, any-miss, any-all, mark-byte, plain-byte}
 use Rattle.records.proofs.marked.Statement.{statement}
 use Rattle.records.proofs.marked.Tie as tie
 
 abbrev Inv-loop : tie.InvT-loop
-Inv-loop text bad₀ i₀ bad i = (i ≤ length text) × (any is-mark text ≡ bad || any is-mark (drop i text))
+Inv-loop text bad₀ i₀ bad i = (i ≤ length text) × (any is-mark text ≡ not (eqb bad 0) || any is-mark (drop i text))
 
 abbrev μ-loop : tie.MeasureT-loop
 μ-loop text bad₀ i₀ bad i = length text - i
 
 loop-again : tie.Need-loop-again Inv-loop μ-loop
 loop-again c =
-    let a = c .before .before .before .args in
-    let l = c .before .before .loop in
-    (omega arith, any-more is-mark (now (a .text)) (l .bad) (l .i) _ (l .inv .1) (c .before .loop-test .taken) (is-mark-byte _ (c .shared-slice-known .given (l .i))))
+    let a = c .before .before .before .before .args in
+    let l = c .before .before .before .loop in
+    (omega arith, any-hit is-mark (now (a .text)) (not (eqb (l .bad) 0)) (l .i) (l .inv .1) (c .before .before .loop-test .taken) (mark-byte _ (c .before .shared-slice-known .given (l .i)) (c .if1 .taken)))
+
+loop-again-2 : tie.Need-loop-again-2 Inv-loop μ-loop
+loop-again-2 c =
+    let a = c .before .before .before .before .args in
+    let l = c .before .before .before .loop in
+    (omega arith, any-miss is-mark (now (a .text)) (not (eqb (l .bad) 0)) (l .i) (l .inv .1) (c .before .before .loop-test .taken) (plain-byte _ (c .before .shared-slice-known .given (l .i)) (c .if1 .left)))
 
 returns : tie.Need-returns Inv-loop μ-loop
-returns c = any-all is-mark _ (c .before .loop .bad) (c .before .loop .i) (c .before .loop .inv .1) (c .loop-test .left)
+returns c =
+    let a = c .before .before .args in
+    let l = c .before .loop in
+    any-all is-mark (now (a .text)) (not (eqb (l .bad) 0)) (l .i) (l .inv .1) (c .loop-test .left)
 
 pub marked-spec : {M : Type 1} → statement M
-marked-spec = tie.close (tie.spec Inv-loop μ-loop (λ c. (omega arith, refl)) (λ c. omega arith) (λ c. omega arith) (λ c. omega arith) loop-again returns)
+marked-spec =
+    tie.close
+    (tie.spec Inv-loop μ-loop (λ c. (omega arith, refl)) (λ c. omega arith) (λ c. omega arith) (λ c. omega arith) loop-again (λ c. omega arith) loop-again-2 returns)
