@@ -1,0 +1,20 @@
+-- `gives::binary` is safe: its output has an entry's length.
+use borrow.Author.Needs.{needs}
+use Rattle.paper.specs.Sizes.{entry-most}
+use Rattle.gives.proofs.binary.Statement.{statement}
+use Rattle.gives.proofs.binary.Tie as tie
+
+binary-requires : tie.Need-binary-requires
+unfolding entry-most
+binary-requires c κs = search needs
+
+pub binary-spec : {M : Type 1} → statement M
+binary-spec =
+    tie.close
+    (tie.spec
+    (λ c κs. search needs)
+    (λ c. search needs)
+    binary-requires
+    (λ c. search needs)
+    (λ c κs. search needs)
+    (λ c. search needs))

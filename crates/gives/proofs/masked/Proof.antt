@@ -1,0 +1,20 @@
+-- `gives::masked` is safe: its output has an entry's length.
+use borrow.Author.Needs.{needs}
+use Rattle.paper.specs.Sizes.{entry-most}
+use Rattle.gives.proofs.masked.Statement.{statement}
+use Rattle.gives.proofs.masked.Tie as tie
+
+give-requires : tie.Need-give-requires
+unfolding entry-most
+give-requires c κs = search needs
+
+pub masked-spec : {M : Type 1} → statement M
+masked-spec =
+    tie.close
+    (tie.spec
+    (λ c κs. search needs)
+    (λ c. search needs)
+    give-requires
+    (λ c. search needs)
+    (λ c κs. search needs)
+    (λ c. search needs))

@@ -1,0 +1,16 @@
+pub mod Bytes
+pub mod Taken
+pub mod Separators
+pub mod Lines
+pub mod Agreement
+pub mod AgreementLines
+pub mod Stack
+pub mod Scans
+pub mod Heads
+pub mod Parted
+pub mod Judging
+pub mod Strings
+pub mod Counts
+pub mod Walking
+pub mod Typed
+pub mod Settled

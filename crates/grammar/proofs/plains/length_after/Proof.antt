@@ -1,0 +1,18 @@
+-- `plains::length_after` meets its contract. Assumes nothing.
+use mathlib.Core.Path.{refl}
+use borrow.Author.Needs.{needs}
+use Rattle.grammar.specs.Reading.{length-after}
+use Rattle.grammar.proofs.Taken.{chosen, missed, plain-some, plain-by}
+use Rattle.grammar.proofs.plains.length_after.Statement.{statement}
+use Rattle.grammar.proofs.plains.length_after.Tie as tie
+
+returns : tie.Need-returns
+unfolding length-after
+returns c = plain-by (c .admit-from .ensures) (chosen _ _ (c .before .before .peek .ensures) (c .before .match .keys1) tt refl)
+
+returns-2 : tie.Need-returns-2
+unfolding length-after
+returns-2 c = plain-some (missed _ _ (c .before .peek .ensures) (c .match .rest))
+
+pub length-after-spec : {M : Type 1} → statement M
+length-after-spec = tie.close (tie.spec (λ c κs. search needs) (λ c κs. search needs) returns returns-2)

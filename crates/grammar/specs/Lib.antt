@@ -1,0 +1,4 @@
+pub mod Places
+pub mod Reading
+pub mod Answers
+pub mod Checking

@@ -1,0 +1,254 @@
+// Document 01, "The code grammar" and "Steps" (A and B): one code, and a code string.
+use crate::Head;
+use crate::Judged;
+use crate::ReadConversion;
+use crate::ReadElm;
+use crate::Verdict;
+use crate::conversions::conversion;
+use crate::elms::elm;
+use crate::places::peek;
+use codes::Elm;
+use codes::Operand;
+use paper::Limit;
+use paper::Mark;
+ghost use mathlib.Core.Path.{_≡_};
+ghost use mathlib.Core.Bool.{true};
+ghost use Prim.Native.Nat.{_≤_};
+ghost use lib.ListN.{length, drop};
+ghost use Rattle.paper.specs.Bytes.{any};
+ghost use Rattle.paper.specs.Sizes.{is-mark, value-mark};
+ghost use Rattle.paper.specs.Records.{split};
+ghost use Rattle.paper.specs.Checking.{counts, judged, judged-all};
+ghost use Rattle.grammar.specs.Checking.{
+  shape-of,
+  held-after,
+  counted,
+  held-in,
+  head,
+  elms-from,
+  finished,
+  judged-of,
+  fault-in,
+  code-end,
+  verdict-of,
+};
+
+const STACK: u64 = Limit::STACK as u64;
+
+// One entry over the stack: it stands for a fault, and stays.
+const FAULT: u64 = STACK + 1;
+
+// "`P` takes one entry .., `_` takes .. two, a literal or LPV takes none"
+pub fn takes(elm: Elm) -> u64
+    ensures { λ r. ⌜ r ≡ shape-of elm .takes ⌝ }
+{
+    match elm {
+        Elm::Push(_) => 0,
+        Elm::Binary(_) => 2,
+        Elm::Substring => 3,
+        Elm::Exchange => 2,
+        Elm::Duplicate => 1,
+        Elm::Convert(_) => 1,
+    }
+}
+
+// "`P` .. puts two, `_` .. puts two"
+pub fn puts(elm: Elm) -> u64
+    ensures { λ r. ⌜ r ≡ shape-of elm .puts ⌝ }
+{
+    match elm {
+        Elm::Push(_) => 1,
+        Elm::Binary(_) => 1,
+        Elm::Substring => 1,
+        Elm::Exchange => 2,
+        Elm::Duplicate => 2,
+        Elm::Convert(_) => 1,
+    }
+}
+
+// 1 for an attribute load, "A"; the others are "B".
+pub fn loads(elm: Elm) -> u64
+    ensures { λ r. ⌜ r ≡ counts true (shape-of elm .loads) ⌝ }
+{
+    match elm {
+        Elm::Push(operand) => match operand {
+            Operand::Attribute {
+                number: _,
+                repeat: _,
+            } => 1,
+            Operand::Literal { start: _, len: _ } => 0,
+            Operand::Previous => 0,
+        },
+        Elm::Binary(_) => 0,
+        Elm::Substring => 0,
+        Elm::Exchange => 0,
+        Elm::Duplicate => 0,
+        Elm::Convert(_) => 0,
+    }
+}
+
+// "takes more entries than are there, or would hold 17"
+fn held_after(elm: Elm, held: u64) -> u64
+    ensures { λ r. ⌜ r ≡ held-after elm held ⌝ }
+{
+    let takes = takes(elm);
+    if STACK < held {
+        return FAULT;
+    }
+    if held < takes {
+        return FAULT;
+    }
+    let after = held - takes + puts(elm);
+    if STACK < after {
+        return FAULT;
+    }
+    after
+}
+
+// What one whole code begins with.
+pub fn head(code: &[u8]) -> Head
+    ensures { λ r. ⌜ r ≡ head (now (code .entry)) ⌝ }
+{
+    let first = peek(code, 0);
+    if first.byte == b'F' {
+        let second = peek(code, 1);
+        if second.byte == b';' {
+            return Head::Function { first: 2 };
+        }
+        return Head::Bad;
+    }
+    let ReadConversion::Conversion { conversion, next } = conversion(code, 0) else {
+        return Head::Bad;
+    };
+    if next == code.len() {
+        Head::Single(conversion)
+    } else {
+        Head::Bad
+    }
+}
+
+// Whether a byte 251 to 255 is there. No early exit, so that it is compiled to SIMD.
+pub(crate) fn marked(code: &[u8]) -> bool
+    ensures { λ r. ⌜ r ≡ any is-mark (now (code .entry)) ⌝ }
+{
+    let mut bad = false;
+    let mut i = 0;
+    while i < code.len() {
+        bad = bad | (Mark::BUFFER <= code[i]);
+        i += 1;
+    }
+    bad
+}
+
+fn judgement(held: u64, loads: u64, others: u64) -> Judged
+    ensures { λ r. ⌜ r ≡ counted (held-in held) loads others ⌝ }
+{
+    if STACK < held {
+        Judged::Faulty(paper::refusal::STACK_FAULT)
+    } else {
+        Judged::Lawful { loads, others }
+    }
+}
+
+// The elms of an F code: 6 is decided on the whole of it, and 7 only then.
+fn judge_elms(code: &[u8], first: usize) -> Judged
+    requires { ⌜ first ≤ length (now code) ⌝ }
+    ensures { λ r. ⌜ r ≡ finished (elms-from (now (code .entry)) first) 0 0 0 ⌝ }
+{
+    let mut at = first;
+    let mut held = 0;
+    let mut attributes = 0;
+    let mut others = 0;
+    loop {
+        let ReadElm::Elm { elm, next } = elm(code, at) else {
+            return Judged::Faulty(paper::refusal::NOT_IN_GRAMMAR);
+        };
+        let load = loads(elm);
+        held = held_after(elm, held);
+        attributes += load;
+        others += 1 - load;
+        if next == code.len() {
+            return judgement(held, attributes, others);
+        }
+        let ahead = peek(code, next);
+        if ahead.byte != b';' {
+            return Judged::Faulty(paper::refusal::NOT_IN_GRAMMAR);
+        }
+        at = ahead.next;
+    }
+}
+
+// One whole code.
+fn judge(code: &[u8]) -> Judged
+    ensures { λ r. ⌜ r ≡ judged-of (judged (now (code .entry))) ⌝ }
+{
+    if marked(code) {
+        return Judged::Faulty(paper::refusal::NOT_IN_GRAMMAR);
+    }
+    match head(code) {
+        Head::Function { first } => judge_elms(code, first),
+        Head::Single(_) => Judged::Lawful {
+            loads: 0,
+            others: 1,
+        },
+        Head::Bad => Judged::Faulty(paper::refusal::NOT_IN_GRAMMAR),
+    }
+}
+
+// "codes parted at every byte 253, inside quotes too": where the code at a place ends.
+pub fn code_end(code: &[u8], from: usize) -> usize
+    ensures { λ r. ⌜ r ≡ code-end (drop from (now (code .entry))) from ⌝ }
+{
+    let mut at = from;
+    while at < code.len() {
+        if code[at] == Mark::VALUE {
+            return at;
+        }
+        at += 1;
+    }
+    at
+}
+
+// The number of a code's fault; 0 where it has none.
+fn fault(judged: Judged) -> u64
+    ensures { λ r. ⌜ r ≡ fault-in judged ⌝ }
+{
+    match judged {
+        Judged::Lawful {
+            loads: _,
+            others: _,
+        } => 0,
+        Judged::Faulty(number) => number,
+    }
+}
+
+// "then the first bad code, 6 or 7, with that code's number from 1"
+pub(crate) fn check_codes(code: &[u8]) -> Verdict
+    ensures { λ r. ⌜ r ≡ verdict-of (judged-all 1 (split value-mark (now (code .entry)))) ⌝ }
+{
+    let mut at = 0;
+    let mut number = 1;
+    let mut loads = 0;
+    let mut others = 0;
+    loop {
+        let end = code_end(code, at);
+        let judged = judge(&code[at..end]);
+        let Judged::Lawful {
+            loads: more_loads,
+            others: more_others,
+        } = judged
+        else {
+            return Verdict::Refused {
+                number: fault(judged),
+                code: number,
+            };
+        };
+        loads += more_loads;
+        others += more_others;
+        if end == code.len() {
+            return Verdict::Accepted { loads, others };
+        }
+        at = end + 1;
+        number += 1;
+    }
+}
