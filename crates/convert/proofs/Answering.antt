@@ -1,0 +1,93 @@
+-- The answer as it grows in the output: what was gathered stands in front as long as it fits. Assumes nothing.
+use Prim.Native.Nat.{ℕ, _+_, _-_, _≤_, _<_}
+use mathlib.Core.Path.{_≡_, refl, sym, ap, _∙_}
+use mathlib.Core.Bool.{Bool, true, false}
+use mathlib.Core.List.{List, [], _∷_, _++_, append-nil}
+use native.Mathlib.Omega.{arith}
+use lib.ListN.{length, take, drop, replicate, length-append, length-take, length-replicate}
+use lib.Seq.{take-at, drop-length}
+use native.Mathlib.Nat.{sub-zero}
+use lib.Dec.{leb}
+use borrow.Author.Tests.{le-leb, lt-leb, leb-true, leb-false}
+use Rattle.paper.specs.Bytes.{Bytes, if_then_else_, buffer}
+use Rattle.lent.specs.Over.{over}
+use Rattle.lent.proofs.Laws.{length-over}
+use Rattle.convert.specs.Gather.{gathered-in, Holds-answer, finished-as, finished-out, converted-of, walks, walked-of}
+use Rattle.convert.specs.declared.Converted.{Converted}
+use Rattle.convert.specs.declared.Walked.{Walked}
+use Rattle.paper.specs.Refusals.{Res, given, refused, _>>_, refuse_unless_, answer-of, refusal-of, short-output}
+use Rattle.paper.specs.Converting.{Outcome, fitted, finished, output-after}
+
+pub gathered-room : (out : Bytes) (n : ℕ) (bs : Bytes) → n + length bs ≤ length out → gathered-in out n bs ≡ over out n bs
+unfolding gathered-in
+gathered-room out n bs h = rw (le-leb (n + length bs) (length out) h)
+
+pub gathered-full : (out : Bytes) (n : ℕ) (bs : Bytes) → length out < n + length bs → gathered-in out n bs ≡ out
+unfolding gathered-in
+gathered-full out n bs h = rw (lt-leb (n + length bs) (length out) h)
+
+pub gathered-length : (out : Bytes) (n : ℕ) (bs : Bytes) → length (gathered-in out n bs) ≡ length out
+unfolding gathered-in
+gathered-length out n bs = go (leb (n + length bs) (length out)) refl
+  where
+    go : (t : Bool) → leb (n + length bs) (length out) ≡ t → length (if t then over out n bs else out) ≡ length out
+    go true e = length-over out n bs (leb-true _ _ e)
+    go false e = refl
+
+-- one piece more behind an answer that the output holds
+pub held-more : (out answer bs : Bytes) → Holds-answer out answer → Holds-answer (gathered-in out (length answer) bs) (answer ++ bs)
+unfolding Holds-answer over
+held-more out answer bs held h =
+    let room : length answer + length bs ≤ length out = omega (arith, length-append answer bs, gathered-length out (length answer) bs) in
+    let front : take (length answer) out ≡ answer = held (omega arith) in
+    ap (take (length (answer ++ bs))) (gathered-room out (length answer) bs room ∙ ap (λ (f : Bytes). f ++ bs ++ drop (length answer + length bs) out) front)
+    ∙ take-at (answer ++ bs) (drop (length answer + length bs) out) (length (answer ++ bs)) refl
+
+pub held-none : (out : Bytes) → Holds-answer out []
+unfolding Holds-answer
+held-none out h = refl
+
+abbrev converted : ℕ → ℕ → ℕ → Converted
+converted number steps n = record { number = number; steps = steps; length = n }
+
+-- how the walk ends, by its form
+module _ (out : Bytes) (w : Walked) where
+  pub finished-stopped : (number steps : ℕ) → w ≡ Walked.Stopped number steps → (converted number steps 0 ≡ finished-as (length out) w) × (replicate (length out) 0 ≡ finished-out out w)
+  unfolding finished-as finished-out
+  finished-stopped number steps e = (rw e, rw e)
+
+  pub finished-short : (steps n : ℕ) → w ≡ Walked.Done steps n → length out < n → (converted short-output steps 0 ≡ finished-as (length out) w) × (replicate (length out) 0 ≡ finished-out out w)
+  unfolding finished-as finished-out
+  finished-short steps n e l = (rw (e, lt-leb n (length out) l), rw (e, lt-leb n (length out) l))
+
+  pub finished-whole : (steps n : ℕ) → w ≡ Walked.Done steps n → n ≤ length out → (converted 0 steps n ≡ finished-as (length out) w) × (over out n (replicate (length out - n) 0) ≡ finished-out out w)
+  unfolding finished-as finished-out over
+  finished-whole steps n e l =
+      let zeros : Bytes = replicate (length out - n) 0 in
+      let all : n + length zeros ≡ length out = omega (arith, length-replicate {A = ℕ} (length out - n) 0) in (
+        rw (e, le-leb n (length out) l),
+        rw (e, le-leb n (length out) l, all, drop-length out) (append-nil _),
+      )
+
+-- what a walk comes to, against the paper's outcome: converting's own answer and output
+pub finished-outcome : (out : Bytes) (o : Outcome) → Holds-answer out (answer-of (o .answer))
+    → (finished-as (length out) (walked-of o) ≡ converted-of (finished (length out) o))
+    × (finished-out out (walked-of o) ≡ output-after (length out) (finished (length out) o))
+unfolding walked-of finished-as finished-out converted-of finished fitted output-after buffer Holds-answer
+finished-outcome out o held = by (o .answer) held
+  where
+    room : (bs : Bytes) → (length bs ≤ length out → take (length bs) out ≡ bs) → (t : Bool) → leb (length bs) (length out) ≡ t
+        → ((if t then converted 0 (o .steps) (length bs) else converted short-output (o .steps) 0)
+        ≡ record { number = refusal-of ((refuse short-output unless t) >> given bs); steps = o .steps; length = length (answer-of ((refuse short-output unless t) >> given bs)) })
+        × ((if t then take (length bs) out ++ replicate (length out - length bs) 0 else replicate (length out) 0)
+        ≡ answer-of ((refuse short-output unless t) >> given bs) ++ replicate (length out - length (answer-of ((refuse short-output unless t) >> given bs))) 0)
+    room bs held true e = (refl, rw (held (leb-true _ _ e)))
+    room bs held false e = (refl, rw sub-zero)
+
+    by : (answer : Res Bytes) → (length (answer-of answer) ≤ length out → take (length (answer-of answer)) out ≡ answer-of answer)
+        → (finished-as (length out) (walks answer (o .steps))
+        ≡ record { number = refusal-of (fitted (length out) answer); steps = o .steps; length = length (answer-of (fitted (length out) answer)) })
+        × (finished-out out (walks answer (o .steps))
+        ≡ answer-of (fitted (length out) answer) ++ replicate (length out - length (answer-of (fitted (length out) answer))) 0)
+    by (refused n) held = (refl, rw sub-zero)
+    by (given bs) held = room bs held (leb (length bs) (length out)) refl

@@ -1,0 +1,33 @@
+-- Demand 3 in the call's own terms: what the laws of the definitions say of the numbers that `convert` answers. Assumes nothing.
+use Prim.Native.Nat.{ℕ, _≤_, _<_}
+use mathlib.Core.Path.{_≡_, sym, ap, _∙_}
+use native.Mathlib.Omega.{arith}
+use lib.ListN.{length}
+use Rattle.paper.specs.Bytes.{Bytes}
+use Rattle.paper.specs.Refusals.{over-budget}
+use Rattle.paper.specs.Checking.{check, report}
+use Rattle.paper.specs.Converting.{Outcome, elements, convert, convert-freely, output-after, ceiling}
+use Rattle.paper.proofs.Budget.{converting-within-budget, converting-over-budget}
+use Rattle.paper.proofs.Ceiling.{steps-within-ceiling}
+use Rattle.convert.specs.Gather.{converted-of}
+use Rattle.convert.specs.declared.Converted.{Converted}
+
+module _ (item string : Bytes) (a v s budget room scratch : ℕ) (r : Converted)
+    (answers : r ≡ converted-of (convert item string a v s budget room scratch)) where
+  -- a budget at or above the defined count: what converting comes to with none, and that count
+  pub budget-changes-nothing : convert-freely item string a v s room scratch .steps ≤ budget
+      → r ≡ converted-of (convert-freely item string a v s room scratch)
+  budget-changes-nothing h = answers ∙ ap converted-of (converting-within-budget item string a v s budget room scratch h)
+
+  -- below it: refused for budget
+  pub budget-refuses : budget < convert-freely item string a v s room scratch .steps → r .number ≡ over-budget
+  unfolding converted-of
+  budget-refuses l =
+      ap (λ (x : Converted). x .number) answers
+      ∙ ap (λ (x : _). Rattle.paper.specs.Refusals.refusal-of x) (converting-over-budget item string a v s budget room scratch l .0)
+
+  -- the count reported is never above the ceiling of what `check` gave
+  pub steps-at-most-ceiling : r .steps
+      ≤ ceiling (report (check string) .loads) (report (check string) .others) (length item) (length (elements item a v s))
+  unfolding converted-of
+  steps-at-most-ceiling = rw answers (steps-within-ceiling item string a v s budget room scratch)

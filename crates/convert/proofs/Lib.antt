@@ -1,0 +1,9 @@
+pub mod Answering
+pub mod Demands
+pub mod Elements
+pub mod Gathering
+pub mod Looping
+pub mod Settled
+pub mod Stages
+pub mod Turning
+pub mod Walking

@@ -1,0 +1,36 @@
+-- `convert::add` meets its contract: the element's refusal is passed up, its answer gathered from its slot. Assumes nothing.
+use borrow.Author.Needs.{needs}
+use Rattle.convert.proofs.Elements.{adds-stopped, adds-gathered, gather-fits}
+use Rattle.convert.proofs.add.Statement.{statement}
+use Rattle.convert.proofs.add.Tie as tie
+
+gather-requires : tie.Need-gather-requires
+gather-requires c κs =
+    gather-fits (c .before .before .before .before .before .before .before .before .before .before .before .before .before .element .ensures .slotted) _ _ _ (c .before .before .before .before .before .before .before .before .before .before .before .before .before .before .before .before .before .before .before .before .before .before .before .before .pre .3) (c .before .entry .ensures)
+
+returns : tie.Need-returns
+returns c = adds-stopped _ _ _ _ _ _ (c .before .before .before .before .before .before .before .before .before .element .ensures) (c .before .number .given .1)
+
+returns-2 : tie.Need-returns-2
+returns-2 c =
+    adds-gathered _ _ _ _ _ _ (c .before .before .before .before .before .before .before .before .before .before .before .before .before .before .before .before .element .ensures) (c .before .before .before .before .before .before .before .before .steps .given .1) (c .before .before .before .before .entry .ensures)
+    (c .before .before .gather .ensures .0) (c .before .before .gather .ensures .1)
+
+pub add-spec : {M : Type 1} → statement M
+add-spec =
+    tie.close
+    (tie.spec
+    (λ c κs. search needs)
+    (λ c. search needs)
+    (λ c. search needs)
+    (λ c κs. search needs)
+    gather-requires
+    (λ c. search needs)
+    (λ c. search needs)
+    (λ c. search needs)
+    returns
+    (λ c. search needs)
+    (λ c. search needs)
+    (λ c. search needs)
+    (λ c. search needs)
+    returns-2)

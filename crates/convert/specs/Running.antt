@@ -1,0 +1,67 @@
+-- What the walk's functions answer, as the enums of the code, through the paper's outcomes.
+use Prim.Native.Nat.{ℕ, _+_, _≤_}
+use mathlib.Core.Path.{_≡_}
+use mathlib.Core.List.{List, []}
+use lib.Dec.{eqb}
+use lib.ListN.{length}
+use Rattle.paper.specs.Bytes.{Bytes, if_then_else_}
+use Rattle.paper.specs.Sizes.{entry-most, value-mark}
+use Rattle.paper.specs.Refusals.{Res, given, refused, answer-of}
+use Rattle.paper.specs.Steps.{element-run}
+use Rattle.paper.specs.Converting.{Outcome, within-budget, elements-run}
+use Rattle.machine.specs.Slots.{Slotted}
+use Rattle.paper.specs.Codes.{Code}
+use Rattle.paper.specs.Checking.{Checked, accepted, faulty, check}
+use Rattle.convert.specs.Gather.{gathered-in, Holds-answer, walked-of}
+use Rattle.convert.specs.Walk.{walked}
+use Rattle.convert.specs.declared.Position.{Position}
+use Rattle.convert.specs.declared.Walked.{Walked}
+
+-- the codes of a string; none where the check refuses it
+abbrev pub codes-of : Checked → List Code
+codes-of (accepted cs) = cs
+codes-of (faulty n k) = []
+
+unfoldable pub codes-in : Bytes → List Code
+codes-in string = codes-of (check string)
+
+-- the check accepts the string, with these codes
+abbrev pub Accepts : Bytes → Type 0
+Accepts string = check string ≡ accepted (codes-in string)
+
+-- one element of an address, through the codes of the string
+abbrev pub element-outcome : Bytes → Bytes → ℕ → ℕ → ℕ → ℕ → Bytes → Outcome
+element-outcome item string v s budget steps text = within-budget budget steps (element-run entry-most item v s (codes-in string) text)
+
+abbrev pub added : ℕ → Res Bytes → ℕ → Walked
+added so-far (given bs) steps = Walked.Done steps (so-far + length bs)
+added so-far (refused n) steps = Walked.Stopped n steps
+
+abbrev pub added-out : Bytes → ℕ → Res Bytes → Bytes
+added-out out so-far (given bs) = gathered-in out so-far bs
+added-out out so-far (refused n) = out
+
+-- an element's answer behind what was gathered: the steps and the answer's length, the output, and the slots in order
+pub record Adds (o : Outcome) (so-far : ℕ) (r : Walked) (out out′ scratch′ : Bytes) (lens′ : List ℕ) : Type 0 where
+  pub answers : r ≡ added so-far (o .answer) (o .steps)
+  pub output : out′ ≡ added-out out so-far (o .answer)
+  pub slotted : Slotted scratch′ lens′
+  pub short : length (answer-of (o .answer)) ≤ entry-most
+
+-- all elements of the bytes that an address reads
+abbrev pub elements-outcome : Bytes → Bytes → ℕ → ℕ → ℕ → Bytes → Outcome
+elements-outcome item string v s budget text =
+    within-budget budget 0 (elements-run entry-most item (codes-in string) (walked [] v s text))
+
+-- what the walk over them leaves: its answer, and the output with the whole answer in front where it fits
+pub record Walks (o : Outcome) (r : Walked) (out out′ : Bytes) : Type 0 where
+  pub answers : r ≡ walked-of o
+  pub held : Holds-answer out′ (answer-of (o .answer))
+  pub room : length out′ ≡ length out
+
+-- the position behind a mark: a value mark opens the next value, another the next subvalue
+abbrev pub position : ℕ → ℕ → Position
+position v s = record { v = v; s = s }
+
+unfoldable pub passed : ℕ → ℕ → ℕ → Position
+passed mark v s = if eqb mark value-mark then position (v + 1) 1 else position v (s + 1)

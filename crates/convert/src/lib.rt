@@ -1,0 +1,296 @@
+// Converting (document 01, "What each code gives" and "Steps"): the elements of an address, the answer, the refusals in order.
+// `convert` takes any record, code string, address, budget and buffers; it is the definition of crates/paper, byte for byte.
+// The elements are walked once from left to right, and each answer goes straight to the lent output.
+use grammar::Verdict;
+use machine::Ran;
+use machine::slots;
+use paper::Limit;
+use paper::Mark;
+use paper::refusal;
+ghost use mathlib.Core.Path.{_≡_};
+ghost use Prim.Native.Nat.{_+_, _^_, _≤_, _<_};
+ghost use lib.ListN.{length};
+ghost use Rattle.machine.specs.Slots.{Lent};
+ghost use Rattle.machine.specs.Runs.{Runs};
+ghost use Rattle.convert.specs.Running.{codes-in, Accepts, element-outcome, elements-outcome, passed, Adds, Walks};
+ghost use Rattle.paper.specs.Sizes.{record-most, position-most, scratch-least};
+ghost use Rattle.paper.specs.Refusals.{given};
+ghost use Rattle.paper.specs.Converting.{from-one, within-budget, run, convert, output-after, scratch-after};
+ghost use Rattle.records.specs.Found.{lawful-find};
+ghost use Rattle.convert.specs.Gather.{gathered-in, finished-as, finished-out, converted-of, refused-at-once};
+
+// What converting comes to: the refusal or 0, the steps reported, the answer's length.
+pub struct Converted {
+    pub number: u64,
+    pub steps: u64,
+    pub length: usize,
+}
+
+// Bytes of the answer behind the `so_far` bytes of it, where the output still has room; the answer's length with them.
+fn gather(src: &[u8], out: &mut [u8], so_far: usize) -> usize
+    requires { ⌜ «so_far» + length (now src) < 2 ^ 63 ⌝ }
+    ensures { λ r. ⌜ r ≡ «so_far» + length (now (src .entry)) ⌝ }
+    ensures { λ _. ⌜ now (out .exit) ≡ gathered-in (now (out .entry)) «so_far» (now (src .entry)) ⌝ }
+{
+    let end = so_far + src.len();
+    if end <= out.len() {
+        lent::copy_in(src, out, so_far);
+    }
+    end
+}
+
+// What the walk over the elements comes to: the steps and the answer's length, or the refusal and the steps before it.
+pub enum Walked {
+    Done { steps: u64, length: usize },
+    Stopped { number: u64, steps: u64 },
+}
+
+// The answer's length against the output's (refusal 16), and zeros behind the answer, or throughout on a refusal.
+fn finish(walked: Walked, out: &mut [u8]) -> Converted
+    ensures { λ r. ⌜ r ≡ finished-as (length (now (out .entry))) walked ⌝ }
+    ensures { λ _. ⌜ now (out .exit) ≡ finished-out (now (out .entry)) walked ⌝ }
+{
+    match walked {
+        Walked::Stopped { number, steps } => {
+            lent::clear(out);
+            Converted {
+                number,
+                steps,
+                length: 0,
+            }
+        }
+        Walked::Done { steps, length } => {
+            if out.len() < length {
+                lent::clear(out);
+                return Converted {
+                    number: refusal::SHORT_OUTPUT,
+                    steps,
+                    length: 0,
+                };
+            }
+            let rest = out.len() - length;
+            lent::fill(out, length, rest, 0);
+            Converted {
+                number: 0,
+                steps,
+                length,
+            }
+        }
+    }
+}
+
+// One element through all codes: 9 before its first step where it is over-long.
+fn element<'a>(
+    item: &'a [u8],
+    code: &'a [u8],
+    text: &[u8],
+    v: u64,
+    s: u64,
+    budget: u64,
+    steps: u64,
+    scratch: &mut [u8],
+    lens: &mut [usize],
+    work: &mut [u8],
+) -> Ran
+    requires { ⌜ Lent (now item) (now scratch) (now lens) (now work) × Accepts (now code) × (steps ≤ budget) ⌝ }
+    ensures { λ r. ⌜ Runs (element-outcome (now (item .entry)) (now (code .entry)) v s budget steps (now (text .entry))) r (now (scratch .exit)) (now (lens .exit)) ⌝ }
+{
+    if Limit::ENTRY < text.len() {
+        return Ran::Stopped {
+            number: refusal::OVER_LONG_ENTRY,
+            steps,
+        };
+    }
+    slots::put(text, scratch, lens, slots::ELEMENT);
+    machine::running::run_codes(item, code, v, s, budget, steps, scratch, lens, work)
+}
+
+// The same, its answer gathered in the output.
+fn add<'a>(
+    item: &'a [u8],
+    code: &'a [u8],
+    text: &[u8],
+    v: u64,
+    s: u64,
+    budget: u64,
+    steps: u64,
+    so_far: usize,
+    out: &mut [u8],
+    scratch: &mut [u8],
+    lens: &mut [usize],
+    work: &mut [u8],
+) -> Walked
+    requires { ⌜ Lent (now item) (now scratch) (now lens) (now work) × Accepts (now code) × (steps ≤ budget) × («so_far» < 2 ^ 62) ⌝ }
+    ensures { λ r. ⌜ Adds (element-outcome (now (item .entry)) (now (code .entry)) v s budget steps (now (text .entry))) «so_far» r (now (out .entry)) (now (out .exit)) (now (scratch .exit)) (now (lens .exit)) ⌝ }
+{
+    match element(item, code, text, v, s, budget, steps, scratch, lens, work) {
+        Ran::Stopped { number, steps } => Walked::Stopped { number, steps },
+        Ran::Done { steps } => {
+            let answer = slots::entry(&*scratch, &*lens, slots::ELEMENT);
+            let length = gather(answer, out, so_far);
+            Walked::Done { steps, length }
+        }
+    }
+}
+
+// An element's own (v, s).
+struct Position {
+    v: u64,
+    s: u64,
+}
+
+// The position behind a mark.
+fn pass(mark: u8, at: Position) -> Position
+    requires { ⌜ (at .v < 2 ^ 62) × (at .s < 2 ^ 62) ⌝ }
+    ensures { λ r. ⌜ r ≡ passed mark (at .v) (at .s) ⌝ }
+{
+    let v = at.v;
+    let s = at.s;
+    if mark == Mark::VALUE {
+        Position { v: v + 1, s: 1 }
+    } else {
+        Position { v, s: s + 1 }
+    }
+}
+
+// All elements of the bytes that an address reads, once from left to right, the marks between them kept.
+fn walk<'a>(
+    item: &'a [u8],
+    code: &'a [u8],
+    text: &[u8],
+    v: u64,
+    s: u64,
+    budget: u64,
+    out: &mut [u8],
+    scratch: &mut [u8],
+    lens: &mut [usize],
+    work: &mut [u8],
+) -> Walked
+    requires { ⌜ Lent (now item) (now scratch) (now lens) (now work) × Accepts (now code) × (length (now text) ≤ record-most) × (v ≤ position-most) × (s ≤ position-most) ⌝ }
+    ensures { λ r. ⌜ Walks (elements-outcome (now (item .entry)) (now (code .entry)) v s budget (now (text .entry))) r (now (out .entry)) (now (out .exit)) ⌝ }
+{
+    let mut at = 0;
+    let mut place = Position { v, s };
+    let mut steps = 0;
+    let mut so_far = 0;
+    loop {
+        let end = records::next_mark(text, at, text.len(), Mark::SUBVALUE, Mark::VALUE);
+        let added = add(
+            item,
+            code,
+            &text[at..end],
+            place.v,
+            place.s,
+            budget,
+            steps,
+            so_far,
+            out,
+            scratch,
+            lens,
+            work,
+        );
+        let Walked::Done {
+            steps: counted,
+            length,
+        } = added
+        else {
+            return added;
+        };
+        if text.len() <= end {
+            return added;
+        }
+        let next = end + 1;
+        so_far = gather(&text[end..next], out, length);
+        steps = counted;
+        place = pass(text[end], place);
+        at = next;
+    }
+}
+
+// "for the id, and a place named only in part, counting starts at 1"
+fn from_one(n: u64) -> u64
+    ensures { λ r. ⌜ r ≡ from-one n ⌝ }
+{
+    if n == 0 { 1 } else { n }
+}
+
+// The run of a lawful address and an accepted string: the lengths of the slots and a work buffer are the only locals.
+fn run<'a>(
+    item: &'a [u8],
+    code: &'a [u8],
+    a: u64,
+    v: u64,
+    s: u64,
+    budget: u64,
+    out: &mut [u8],
+    scratch: &mut [u8],
+) -> Walked
+    requires { ⌜ (lawful-find (now item) a v s ≡ given tt) × Accepts (now code) × (scratch-least ≤ length (now scratch)) ⌝ }
+    ensures { λ r. ⌜ Walks (within-budget budget 0 (run (now (item .entry)) a v s (codes-in (now (code .entry))))) r (now (out .entry)) (now (out .exit)) ⌝ }
+{
+    let mut lens = [0usize; slots::SLOTS];
+    let mut work = [0u8; Limit::ENTRY];
+    let text = records::part(item, a, v, s);
+    walk(
+        item,
+        code,
+        text,
+        from_one(v),
+        from_one(s),
+        budget,
+        out,
+        scratch,
+        &mut lens,
+        &mut work,
+    )
+}
+
+// A refusal before the run: no steps, and zeros throughout both buffers.
+fn refuse(number: u64, out: &mut [u8], scratch: &mut [u8]) -> Converted
+    ensures { λ r. ⌜ r ≡ converted-of (refused-at-once number) ⌝ }
+    ensures { λ _. ⌜ now (out .exit) ≡ output-after (length (now (out .entry))) (refused-at-once number) ⌝ }
+    ensures { λ _. ⌜ now (scratch .exit) ≡ scratch-after (length (now (scratch .entry))) ⌝ }
+{
+    lent::clear(out);
+    lent::clear(scratch);
+    Converted {
+        number,
+        steps: 0,
+        length: 0,
+    }
+}
+
+// "Converting: 1, 2, 3, 4, 5, 6 or 7, 8, then the run, then 16."
+pub fn convert<'a>(
+    item: &'a [u8],
+    code: &'a [u8],
+    a: u64,
+    v: u64,
+    s: u64,
+    budget: u64,
+    out: &mut [u8],
+    scratch: &mut [u8],
+) -> Converted
+    ensures { λ r. ⌜ r ≡ converted-of (convert (now (item .entry)) (now (code .entry)) a v s budget (length (now (out .entry))) (length (now (scratch .entry)))) ⌝ }
+    ensures { λ _. ⌜ now (out .exit) ≡ output-after (length (now (out .entry))) (convert (now (item .entry)) (now (code .entry)) a v s budget (length (now (out .entry))) (length (now (scratch .entry)))) ⌝ }
+    ensures { λ _. ⌜ now (scratch .exit) ≡ scratch-after (length (now (scratch .entry))) ⌝ }
+{
+    let refused = records::lawful_find(item, a, v, s);
+    if refused != 0 {
+        return refuse(refused, out, scratch);
+    }
+    match grammar::check(code) {
+        Verdict::Refused { number, code: _ } => refuse(number, out, scratch),
+        Verdict::Accepted {
+            loads: _,
+            others: _,
+        } => {
+            if scratch.len() < Limit::SCRATCH {
+                return refuse(refusal::SHORT_SCRATCH, out, scratch);
+            }
+            let walked = run(item, code, a, v, s, budget, out, scratch);
+            lent::clear(scratch);
+            finish(walked, out)
+        }
+    }
+}

@@ -1,0 +1,135 @@
+-- The laws of one code's run: a code other than F on the element, and what the judgement of a code says of its head. Assumes nothing.
+use mathlib.Core.Path.{_≡_, refl, sym, ap, _∙_}
+use mathlib.Core.Bool.{Bool, true, false}
+use mathlib.Core.List.{List, [], _∷_}
+use mathlib.Core.Option.{Option, none, some}
+use Prim.Native.Nat.{ℕ, zero, suc, _+_, _-_, _≤_, _<_}
+use native.Mathlib.Nat.{add-zero}
+use native.Mathlib.Omega.{arith}
+use lib.ListN.{length}
+use lib.Dec.{leb, eqb}
+use borrow.Author.Tests.{le-leb, lt-leb}
+use Rattle.paper.specs.Bytes.{Bytes, if_then_else_, any}
+use Rattle.paper.specs.Sizes.{entry-most, is-mark}
+use Rattle.paper.specs.Refusals.{Res, given, refused, _>>=_, _>>_, over-budget}
+use Rattle.paper.specs.declared.Given.{Given}
+use Rattle.paper.specs.Answers.{refusal-in}
+use Rattle.paper.specs.Codes.{Conversion, Elm, Code}
+use Rattle.paper.specs.Grammar.{read}
+use Rattle.paper.specs.Checking.{all-stacked, lawful, in-grammar, judged}
+use Rattle.paper.specs.Steps.{Setting, Run, done, stop, step, stepped, conversion-gives, bytes-in, price, limited, conversion-step, elms-run, code-run}
+use Rattle.paper.specs.Converting.{Outcome, within-budget}
+use Rattle.codes.specs.declared.Conversion.{Conversion as Converted}
+use Rattle.codes.specs.Meaning.{conversion-of}
+use Rattle.grammar.specs.declared.Head.{Head}
+use Rattle.grammar.specs.Places.{byte-at}
+use Rattle.grammar.specs.Reading as place
+use Rattle.grammar.specs.Checking.{whole, head, elms-from}
+use Rattle.grammar.proofs.Judging.{functioned, read-by, head-reads, marks-read}
+use Rattle.machine.specs.Slots.{element-slot, entry-at}
+use Rattle.machine.specs.Bounds.{Conversion-within}
+use Rattle.machine.specs.Stepping.{handed, setting-of, taken-one, converted-on}
+use Rattle.machine.specs.Runs.{answered, read-run, Stacks, stacks, converting, judged-run, Judged-well, judged-well}
+use Rattle.machine.proofs.Effects.{Gave, gave-handed}
+use Rattle.machine.proofs.Turns.{stopped}
+use Rattle.machine.proofs.Within.{Reads, conversion-reads, read-has}
+
+-- One code other than F, under a budget, with so much of it left.
+module _ (budget steps taken : ℕ) (within : steps ≤ budget) where
+  pub converting-over : (bs : Bytes) → budget - steps < 1 + taken + length bs
+      → within-budget budget steps (converting taken (given bs)) ≡ stopped over-budget steps
+  unfolding within-budget converting
+  converting-over bs h =
+      let over : leb (steps + (1 + taken + length bs)) budget ≡ false = lt-leb (steps + (1 + taken + length bs)) budget (omega arith) in
+      rw over
+
+  pub converting-within : (bs : Bytes) → 1 + taken + length bs ≤ budget - steps
+      → within-budget budget steps (converting taken (given bs)) ≡ answered bs (steps + (1 + taken + length bs))
+  unfolding within-budget converting
+  converting-within bs h =
+      let fits : leb (steps + (1 + taken + length bs)) budget ≡ true = le-leb (steps + (1 + taken + length bs)) budget (omega arith) in
+      rw fits
+
+  pub converting-refused : {answer : Given} {n m : ℕ} (work : Bytes) → m ≡ refusal-in answer → answer ≡ Given.Refused n
+      → within-budget budget steps (converting taken (handed answer work)) ≡ stopped m steps
+  unfolding within-budget converting handed refusal-in
+  converting-refused work p e = rw (p, e)
+
+-- what the code gave on the element in its slot
+pub single-gave : {answer : Given} {work′ element : Bytes} (scratch : Bytes) (lens : List ℕ) (c : Conversion) (work : Bytes)
+    → element ≡ entry-at scratch lens element-slot → Gave (limited entry-most (conversion-gives c element)) answer work work′
+    → converting (taken-one scratch lens element-slot) (converted-on c scratch lens element-slot) ≡ converting (length element) (handed answer work′)
+single-gave scratch lens c work e g = rw (gave-handed _ work g, e)
+
+-- the paper's run of it
+single-run : (c : Setting) (k : Conversion)
+    → code-run entry-most c (Code.single k) ≡ converting (length (c .previous)) (limited entry-most (conversion-gives k (c .previous)))
+unfolding code-run conversion-step converting stepped price bytes-in
+single-run c k = go (limited entry-most (conversion-gives k (c .previous)))
+  where
+    go : (x : Res Bytes)
+        → stepped (x >>= λ put. given (price false (c .item) (c .previous ∷ []) (put ∷ []), put)) done ≡ converting (length (c .previous)) x
+    go (refused n) = refl
+    go (given bs) = rw (add-zero, add-zero)
+
+-- A code that was judged well is what its head says.
+judging : Option Code → Res Code
+judging o = in-grammar o >>= λ c. lawful c >> given c
+
+well-given : {r : Res Code} {n : ℕ} → Judged-well r → r ≡ refused n → ⊥
+well-given judged-well e = let z : _≡_ {A = ℕ} 0 1 = cc in omega arith
+
+judged-head : (s : Bytes) → Judged-well (judged s) → judged s ≡ judging (read-by s (head s))
+unfolding judged judging
+judged-head s well = marked (any is-mark s) refl
+  where
+    marked : (t : Bool) → any is-mark s ≡ t → judging (read s) ≡ judging (read-by s (head s))
+    marked true e = absurd (well-given well (ap judging (marks-read s e)))
+    marked false e = ap judging (head-reads s e)
+
+-- an F code: its elms are there, with room for each, and its run is theirs
+module _ (s : Bytes) (well : Judged-well (judged s)) where
+  function-judged : (o : Option (List Elm)) → judged s ≡ judging (functioned o)
+      → Stacks o 0 × ((c : Setting) → judged-run c (judged s) ≡ read-run c o [])
+  unfolding judging lawful judged-run read-run code-run
+  function-judged none e = absurd (well-given well e)
+  function-judged (some es) e = go (all-stacked es 0) refl
+    where
+      go : (r : Res ℕ) → all-stacked es 0 ≡ r → Stacks (some es) 0 × ((c : Setting) → judged-run c (judged s) ≡ read-run c (some es) [])
+      go (given n) f = (stacks f, λ c. rw (e, f))
+      go (refused n) f = absurd (well-given {n = n} well (e ∙ rw f))
+
+  pub function-code : {first : ℕ} → head s ≡ Head.Function first
+      → Stacks (elms-from s first) 0 × ((c : Setting) → judged-run c (judged s) ≡ read-run c (elms-from s first) [])
+  function-code {first} h = function-judged (elms-from s first) (judged-head s well ∙ ap (λ (x : Head). judging (read-by s x)) h)
+
+  pub bad-code : head s ≡ Head.Bad → ⊥
+  unfolding judging
+  bad-code h = well-given well (judged-head s well ∙ ap (λ (x : Head). judging (read-by s x)) h)
+
+  -- any other: its run is one step
+  pub single-code : {q : Converted} → head s ≡ Head.Single q
+      → (c : Setting) → judged-run c (judged s) ≡ converting (length (c .previous)) (limited entry-most (conversion-gives (conversion-of q) (c .previous)))
+  unfolding judging lawful judged-run
+  single-code {q} h c = rw (judged-head s well, h) (single-run c (conversion-of q))
+
+-- and its numbers are within what the grammar keeps them
+whole-within : {q : Converted} (n : ℕ) {o : Option (Converted × ℕ)} → Reads Conversion-within o → whole n o ≡ Head.Single q → Conversion-within q
+whole-within {q} n {o} p e = go o p e
+  where
+    go : (o : Option (Converted × ℕ)) → Reads Conversion-within o → whole n o ≡ Head.Single q → Conversion-within q
+    go none p e = let z : _≡_ {A = ℕ} 0 1 = cc in absurd (omega arith)
+    go (some r) p e = pick (eqb (r .1) n) e
+      where
+        pick : (t : Bool) → (if t then Head.Single (r .0) else Head.Bad) ≡ Head.Single q → Conversion-within q
+        pick true e = let same : r .0 ≡ q = cc in rw same at (read-has p refl)
+        pick false e = let z : _≡_ {A = ℕ} 0 1 = cc in absurd (omega arith)
+
+pub single-within : {q : Converted} (s : Bytes) → head s ≡ Head.Single q → Conversion-within q
+unfolding head
+single-within {q} s h = go (eqb 70 (byte-at s 0)) (eqb 59 (byte-at s 1)) h
+  where
+    go : (t u : Bool) → (if t then (if u then Head.Function 2 else Head.Bad) else whole (length s) (place.conversion s 0)) ≡ Head.Single q → Conversion-within q
+    go true true e = let z : _≡_ {A = ℕ} 0 1 = cc in absurd (omega arith)
+    go true false e = let z : _≡_ {A = ℕ} 0 1 = cc in absurd (omega arith)
+    go false u e = whole-within (length s) (conversion-reads s 0) e

@@ -1,0 +1,233 @@
+-- The laws of the slots: what is put into one is there, and every other slot holds what it held. Assumes nothing.
+use mathlib.Core.Path.{_≡_, refl, sym, ap, _∙_}
+use mathlib.Core.Logic.{_≢_}
+use mathlib.Core.List.{List, [], _∷_, _++_, append-assoc}
+use Prim.Native.Nat.{ℕ, zero, suc, _+_, _-_, _*_, _≤_, _<_, min}
+use native.Mathlib.Nat.{suc-mul, mul-le-mul-right, le-trans}
+use native.Mathlib.Numerals.{add-one}
+use native.Mathlib.Decide.{decLt}
+use native.Mathlib.Omega.{arith}
+use lib.ListN.{length, take, drop, getD, set, length-append, length-take, length-drop, length-set, List·getD-append}
+use lib.Seq.{getD-take, getD-drop, getD-append-add, getD-set-same, getD-set-other, ext-getD, length-take-le, drop-at, take-at}
+use Rattle.paper.specs.Bytes.{Bytes}
+use Rattle.paper.specs.Sizes.{entry-most, scratch-least, stack-most}
+use Rattle.lent.specs.Over.{over}
+use Rattle.lent.proofs.Laws.{length-over, length-from}
+use Rattle.machine.specs.Slots.{slots, element-slot, spare-slot, entry-at, stack-of, put-in, put-length, exchanged, exchanged-lengths, Slotted}
+
+-- bytes laid over a list are seen by no part before them, and by none behind them
+before-over : (d : Bytes) (at : ℕ) (s : Bytes) (i : ℕ) → at ≤ length d → i < at → getD (over d at s) i 0 ≡ getD d i 0
+unfolding over
+before-over d at s i h l =
+    ap (λ (b : Bytes). getD b i 0) (append-assoc (take at d) s (drop (at + length s) d))
+    ∙ List·getD-append (take at d) (s ++ drop (at + length s) d) 0 i (rw (length-take-le at d h) l)
+    ∙ getD-take at d i 0 l
+
+behind-over : (d : Bytes) (at : ℕ) (s : Bytes) (i : ℕ) → at + length s ≤ length d → at + length s ≤ i → getD (over d at s) i 0 ≡ getD d i 0
+unfolding over
+behind-over d at s i h l =
+    let long : length (take at d ++ s) ≡ at + length s = length-append (take at d) s ∙ ap (λ (n : ℕ). n + length s) (length-take-le at d (omega arith)) in
+    let place : i ≡ length (take at d ++ s) + (i - (at + length s)) = omega arith in
+    let here : i ≡ at + length s + (i - (at + length s)) = omega arith in
+    ap (λ (n : ℕ). getD ((take at d ++ s) ++ drop (at + length s) d) n 0) place
+    ∙ getD-append-add (take at d ++ s) (drop (at + length s) d) (i - (at + length s)) 0
+    ∙ getD-drop (at + length s) d (i - (at + length s)) 0
+    ∙ ap (λ (n : ℕ). getD d n 0) (sym here)
+
+-- a part of n bytes at p, before or behind
+part-same : (d : Bytes) (at : ℕ) (s : Bytes) (p n : ℕ) → at + length s ≤ length d
+    → ((i : ℕ) → i < n → getD (over d at s) (p + i) 0 ≡ getD d (p + i) 0) → take n (drop p (over d at s)) ≡ take n (drop p d)
+part-same d at s p n h same =
+    ext-getD 0 _ _
+    (length-take n (drop p (over d at s)) ∙ ap (λ (m : ℕ). min n m) (length-drop p (over d at s) ∙ ap (λ (m : ℕ). m - p) (length-over d at s h) ∙ sym (length-drop p d)) ∙ sym (length-take n (drop p d)))
+    (λ i l. at-i i (omega (arith, l, length-take n (drop p (over d at s)))))
+  where
+    at-i : (i : ℕ) → i < n → getD (take n (drop p (over d at s))) i 0 ≡ getD (take n (drop p d)) i 0
+    at-i i l =
+        getD-take n (drop p (over d at s)) i 0 l ∙ getD-drop p (over d at s) i 0 ∙ same i l ∙ sym (getD-drop p d i 0) ∙ sym (getD-take n (drop p d) i 0 l)
+
+-- a part just where the bytes were laid
+part-laid : (d : Bytes) (at : ℕ) (s : Bytes) → at + length s ≤ length d → take (length s) (drop at (over d at s)) ≡ s
+unfolding over
+part-laid d at s h =
+    ap (λ (b : Bytes). take (length s) (drop at b)) (append-assoc (take at d) s (drop (at + length s) d))
+    ∙ ap (λ (b : Bytes). take (length s) b) (drop-at (take at d) (s ++ drop (at + length s) d) at (length-take-le at d (omega arith)))
+    ∙ take-at s (drop (at + length s) d) (length s) refl
+
+-- a part from one place to another, as the code cuts it
+pub from-to : (d : Bytes) (from n : ℕ) → take (from + n - from) (drop from d) ≡ take n (drop from d)
+from-to d from n =
+    let e : from + n - from ≡ n = omega arith in
+    ap (λ (m : ℕ). take m (drop from d)) e
+
+slot-before : (j k : ℕ) → j < k → j * entry-most + entry-most ≤ k * entry-most
+slot-before j k h = rw suc-mul at (mul-le-mul-right entry-most h)
+
+pub slot-within : (k : ℕ) → k < slots → k * entry-most + entry-most ≤ scratch-least
+unfolding entry-most scratch-least
+slot-within k h = omega arith
+
+-- what slot k holds ends within the scratch, and is as long as its length says
+module _ {scratch : Bytes} {lens : List ℕ} (slotted : Slotted scratch lens) (k : ℕ) (here : k < slots) where
+  pub slot-ends : k * entry-most + getD lens k 0 ≤ length scratch
+  slot-ends = omega (arith, slot-within k here, slotted .long, slotted .fits k)
+
+  pub entry-length : length (entry-at scratch lens k) ≡ getD lens k 0
+  unfolding entry-at
+  entry-length = length-from scratch (k * entry-most) (getD lens k 0) slot-ends
+
+  pub entry-fits : length (entry-at scratch lens k) ≤ entry-most
+  entry-fits = omega (arith, entry-length, slotted .fits k)
+
+  pub entry-read : {part : Bytes} → part ≡ entry-at scratch lens k → length part ≤ entry-most
+  entry-read e = rw e entry-fits
+
+module _ {scratch : Bytes} {lens : List ℕ} (slotted : Slotted scratch lens) (k : ℕ) (bs : Bytes) (here : k < slots) (fit : length bs ≤ entry-most) where
+  pub room : k * entry-most + length bs ≤ length scratch
+  room = omega (arith, slot-within k here, slotted .long)
+
+  pub put-slotted : Slotted (put-in scratch k bs) (put-length lens k bs)
+  unfolding put-in put-length
+  put-slotted =
+      record {
+        long = omega (arith, length-over scratch (k * entry-most) bs room, slotted .long);
+        each = length-set lens k (length bs) ∙ slotted .each;
+        fits = λ j. fits-at j (decLt j k) (decLt k j);
+      }
+    where
+      fits-at : (j : ℕ) → Dec (j < k) → Dec (k < j) → getD (set lens k (length bs)) j 0 ≤ entry-most
+      fits-at j (yes l) g = rw (getD-set-other lens k j (length bs) 0 (omega arith)) (slotted .fits j)
+      fits-at j (no l) (yes g) = rw (getD-set-other lens k j (length bs) 0 (omega arith)) (slotted .fits j)
+      fits-at j (no l) (no g) =
+          let e : j ≡ k = omega arith in
+          rw (e, getD-set-same lens k (length bs) 0 (omega (arith, slotted .each))) fit
+
+  -- the slot holds what was put
+  pub put-same : entry-at (put-in scratch k bs) (put-length lens k bs) k ≡ bs
+  unfolding entry-at put-in put-length
+  put-same =
+      rw (getD-set-same lens k (length bs) 0 (omega (arith, slotted .each)))
+      (part-laid scratch (k * entry-most) bs room)
+
+  -- every other slot holds what it held
+  pub put-other : (j : ℕ) → j ≢ k → entry-at (put-in scratch k bs) (put-length lens k bs) j ≡ entry-at scratch lens j
+  unfolding entry-at put-in put-length
+  put-other j ne =
+      rw (getD-set-other lens k j (length bs) 0 ne)
+      (part-same scratch (k * entry-most) bs (j * entry-most) (getD lens j 0) room (λ i l. apart i l (decLt j k)))
+    where
+      apart : (i : ℕ) → i < getD lens j 0 → Dec (j < k)
+          → getD (over scratch (k * entry-most) bs) (j * entry-most + i) 0 ≡ getD scratch (j * entry-most + i) 0
+      apart i l (yes h) = before-over scratch (k * entry-most) bs (j * entry-most + i) (omega (arith, room)) (omega (arith, slot-before j k h, slotted .fits j))
+      apart i l (no h) = behind-over scratch (k * entry-most) bs (j * entry-most + i) room (omega (arith, slot-before k j (omega arith)))
+
+  -- and so do the slots below, as a stack
+  pub put-above : (n : ℕ) → n ≤ k → stack-of (put-in scratch k bs) (put-length lens k bs) n ≡ stack-of scratch lens n
+  unfolding stack-of
+  put-above zero h = refl
+  put-above (suc n) h = rw (put-other n (omega arith), put-above n (omega arith))
+
+  pub put-on-top : stack-of (put-in scratch k bs) (put-length lens k bs) (suc k) ≡ bs ∷ stack-of scratch lens k
+  unfolding stack-of
+  put-on-top = rw (put-same, put-above k (omega arith))
+
+-- what putting leaves, as the code says it
+abbrev pub Put : Bytes → List ℕ → ℕ → Bytes → Bytes → List ℕ → Type 0
+Put scratch lens k bs scratch′ lens′ = (scratch′ ≡ put-in scratch k bs) × (lens′ ≡ put-length lens k bs)
+
+module _ {scratch : Bytes} {lens : List ℕ} {scratch′ : Bytes} {lens′ : List ℕ} (slotted : Slotted scratch lens) (k : ℕ) (bs : Bytes)
+    (here : k < slots) (fit : length bs ≤ entry-most) (put : Put scratch lens k bs scratch′ lens′) where
+  pub after-slotted : Slotted scratch′ lens′
+  after-slotted = rw (put .0, put .1) (put-slotted slotted k bs here fit)
+
+  pub after-same : entry-at scratch′ lens′ k ≡ bs
+  after-same = rw (put .0, put .1) (put-same slotted k bs here fit)
+
+  pub after-other : (j : ℕ) → j ≢ k → entry-at scratch′ lens′ j ≡ entry-at scratch lens j
+  after-other j ne = rw (put .0, put .1) (put-other slotted k bs here fit j ne)
+
+  pub after-above : (n : ℕ) → n ≤ k → stack-of scratch′ lens′ n ≡ stack-of scratch lens n
+  after-above n h = rw (put .0, put .1) (put-above slotted k bs here fit n h)
+
+  pub after-on-top : stack-of scratch′ lens′ (suc k) ≡ bs ∷ stack-of scratch lens k
+  after-on-top = rw (put .0, put .1) (put-on-top slotted k bs here fit)
+
+-- what one slot holds, put into another
+pub copy-slotted : {s s′ : Bytes} {l l′ : List ℕ} (slotted : Slotted s l) (from to : ℕ) → from < slots → to < slots
+    → Put s l to (entry-at s l from) s′ l′ → Slotted s′ l′
+copy-slotted slotted from to there here put = after-slotted slotted to _ here (entry-fits slotted from there) put
+
+-- two slots exchanged by three copies
+module _ {s₀ s₁ s₂ s₃ : Bytes} {l₀ l₁ l₂ l₃ : List ℕ} (slotted : Slotted s₀ l₀) (k : ℕ) (room : k + 1 < stack-most)
+    (aside : Put s₀ l₀ spare-slot (entry-at s₀ l₀ k) s₁ l₁) (down : Put s₁ l₁ k (entry-at s₁ l₁ (k + 1)) s₂ l₂)
+    (up : Put s₂ l₂ (k + 1) (entry-at s₂ l₂ spare-slot) s₃ l₃) where
+  aside-slotted : Slotted s₁ l₁
+  aside-slotted = copy-slotted slotted k spare-slot (omega arith) (omega arith) aside
+
+  lower : entry-at s₁ l₁ (k + 1) ≡ entry-at s₀ l₀ (k + 1)
+  lower = after-other slotted spare-slot _ (omega arith) (entry-fits slotted k (omega arith)) aside (k + 1) (omega arith)
+
+  spared : entry-at s₂ l₂ spare-slot ≡ entry-at s₀ l₀ k
+  spared =
+      after-other aside-slotted k _ (omega arith) (entry-fits aside-slotted (k + 1) (omega arith)) down spare-slot (omega arith)
+      ∙ after-same slotted spare-slot _ (omega arith) (entry-fits slotted k (omega arith)) aside
+
+  pub exchanged-by-copies : (s₃ ≡ exchanged s₀ l₀ k) × (l₃ ≡ exchanged-lengths s₀ l₀ k)
+  unfolding exchanged exchanged-lengths
+  exchanged-by-copies = (
+    up .0 ∙ rw (spared, down .0, lower, aside .0),
+    up .1 ∙ rw (spared, down .1, lower, aside .1),
+  )
+
+-- after the exchange: the two entries in the other order on the same stack, and the element in its slot
+module _ {scratch : Bytes} {lens : List ℕ} (slotted : Slotted scratch lens) (k : ℕ) (room : k + 1 < stack-most) where
+  second : Bytes
+  second = entry-at scratch lens k
+
+  top : Bytes
+  top = entry-at scratch lens (k + 1)
+
+  fits : length second ≤ entry-most
+  unfolding second
+  fits = entry-fits slotted k (omega arith)
+
+  fits′ : length top ≤ entry-most
+  unfolding top
+  fits′ = entry-fits slotted (k + 1) (omega arith)
+
+  aside : Slotted (put-in scratch spare-slot second) (put-length lens spare-slot second)
+  aside = put-slotted slotted spare-slot second (omega arith) fits
+
+  down : Slotted (put-in (put-in scratch spare-slot second) k top) (put-length (put-length lens spare-slot second) k top)
+  down = put-slotted aside k top (omega arith) fits′
+
+  pub exchanged-slotted : Slotted (exchanged scratch lens k) (exchanged-lengths scratch lens k)
+  unfolding exchanged exchanged-lengths second top
+  exchanged-slotted = put-slotted down (k + 1) second (omega arith) fits
+
+  pub exchanged-element : entry-at (exchanged scratch lens k) (exchanged-lengths scratch lens k) element-slot ≡ entry-at scratch lens element-slot
+  unfolding exchanged exchanged-lengths second top
+  exchanged-element =
+      put-other down (k + 1) second (omega arith) fits element-slot (omega arith)
+      ∙ put-other aside k top (omega arith) fits′ element-slot (omega arith)
+      ∙ put-other slotted spare-slot second (omega arith) fits element-slot (omega arith)
+
+  below : stack-of (exchanged scratch lens k) (exchanged-lengths scratch lens k) k ≡ stack-of scratch lens k
+  unfolding exchanged exchanged-lengths second top
+  below =
+      put-above down (k + 1) second (omega arith) fits k (omega arith)
+      ∙ put-above aside k top (omega arith) fits′ k (omega arith)
+      ∙ put-above slotted spare-slot second (omega arith) fits k (omega arith)
+
+  lower′ : entry-at (exchanged scratch lens k) (exchanged-lengths scratch lens k) k ≡ entry-at scratch lens (k + 1)
+  unfolding exchanged exchanged-lengths second top
+  lower′ = put-other down (k + 1) second (omega arith) fits k (omega arith) ∙ put-same aside k top (omega arith) fits′
+
+  upper : entry-at (exchanged scratch lens k) (exchanged-lengths scratch lens k) (k + 1) ≡ entry-at scratch lens k
+  unfolding exchanged exchanged-lengths second top
+  upper = put-same down (k + 1) second (omega arith) fits
+
+  pub exchanged-stack : stack-of (exchanged scratch lens k) (exchanged-lengths scratch lens k) (suc (suc k))
+      ≡ entry-at scratch lens k ∷ entry-at scratch lens (k + 1) ∷ stack-of scratch lens k
+  unfolding stack-of
+  exchanged-stack = rw (← add-one k, upper, lower′, below)

@@ -1,0 +1,9 @@
+pub mod Laws
+pub mod Effects
+pub mod Operands
+pub mod Elms
+pub mod Within
+pub mod Turns
+pub mod CodeRuns
+pub mod Parts
+pub mod Settled

@@ -1,0 +1,246 @@
+-- What the readers of the grammar keep an elm's numbers within: digits, a mask's width, a literal's place in its code. Assumes nothing.
+use mathlib.Core.Path.{_≡_, refl, sym, ap, _∙_}
+use mathlib.Core.Bool.{Bool, true, false, _&&_}
+use mathlib.Core.List.{List, [], _∷_}
+use mathlib.Core.Option.{Option, none, some}
+use Prim.Native.Nat.{ℕ, zero, suc, _+_, _-_, _≤_, _<_}
+use native.Mathlib.Omega.{arith}
+use lib.ListN.{length, drop, length-drop}
+use lib.Dec.{leb, eqb, lit≤}
+use borrow.Author.Tests.{leb-true}
+use Rattle.paper.specs.Bytes.{Bytes, if_then_else_, within, digit-value}
+use Rattle.paper.specs.Grammar.{is-separator}
+use Rattle.paper.proofs.Predicates.{All, none-of, and-all}
+use Rattle.codes.specs.declared.Plain.{Plain}
+use Rattle.codes.specs.declared.Fill.{Fill}
+use Rattle.codes.specs.declared.Conversion.{Conversion}
+use Rattle.codes.specs.declared.Repeat.{Repeat}
+use Rattle.codes.specs.declared.Elm.{Elm}
+use Rattle.codes.specs.Meaning.{fill-of, mask-of}
+use Rattle.masks.specs.Bounds.{field-width, Bounded}
+use Rattle.grammar.specs.Places.{Placed, byte-at, after, follow, follow-or, gives, fails, only-if, ahead, choose-or, this, flag, digit, num, numeral}
+use Rattle.grammar.specs.Reading as place
+use Rattle.grammar.proofs.Taken.{digit-small}
+use Rattle.machine.specs.Bounds.{
+  Operand-within,
+  attribute-within,
+  literal-within,
+  previous-within,
+  Operator-within,
+  multiply-within,
+  divide-within,
+  rest-within,
+  add-within,
+  subtract-within,
+  concatenate-within,
+  relate-within,
+  Conversion-within,
+  plain-within,
+  mask-within,
+  date-within,
+  Elm-within,
+  push-within,
+  binary-within,
+  substring-within,
+  exchange-within,
+  duplicate-within,
+  convert-within,
+}
+
+-- nothing read, or something with P
+pub data Reads {A : Type 0} (P : A → Type 0) : Option (A × ℕ) → Type 0 where
+  reads : {r : A × ℕ} → P (r .0) → Reads P (some r)
+  reads-not : Reads P none
+
+pub read-has : {A : Type 0} {P : A → Type 0} {o : Option (A × ℕ)} {a : A} {n : ℕ} → Reads P o → o ≡ some (a, n) → P a
+read-has {A} {P} {o} {a} {n} p e = has (rw e at p)
+  where
+    has : Reads P (some (a, n)) → P a
+    has (reads q) = q
+
+-- wherever it reads
+abbrev Ever : {A : Type 0} → (A → Type 0) → Bytes → Placed A → Type 0
+Ever P s r = (n : ℕ) → Reads P (r s n)
+
+either : {A : Type 0} {P : A → Type 0} (t : Bool) {x y : Option (A × ℕ)} → Reads P x → Reads P y → Reads P (if t then x else y)
+either true p q = p
+either false p q = q
+
+follow-then : {A B : Type 0} {P : A → Type 0} {Q : B → Type 0} {s : Bytes} {o : Option (A × ℕ)} (k : A → Placed B) → Reads P o
+    → ((a : A) → P a → Ever Q s (k a)) → Reads Q (follow o k s)
+follow-then k (reads {r = r} p) f = f (r .0) p (r .1)
+follow-then k reads-not f = reads-not
+
+follow-any : {A B : Type 0} {Q : B → Type 0} {s : Bytes} (o : Option (A × ℕ)) (k : A → Placed B) → ((a : A) → Ever Q s (k a))
+    → Reads Q (follow o k s)
+follow-any (some r) k f = f (r .0) (r .1)
+follow-any none k f = reads-not
+
+or-then : {A B : Type 0} {P : A → Type 0} {Q : B → Type 0} {s : Bytes} {o : Option (A × ℕ)} (k : A → Placed B) (x : Option (B × ℕ)) → Reads P o
+    → ((a : A) → P a → Ever Q s (k a)) → Reads Q x → Reads Q (follow-or o k s x)
+or-then k x (reads {r = r} p) f q = f (r .0) p (r .1)
+or-then k x reads-not f q = q
+
+or-any : {A B : Type 0} {Q : B → Type 0} {s : Bytes} (o : Option (A × ℕ)) (k : A → Placed B) (x : Option (B × ℕ))
+    → ((a : A) → Ever Q s (k a)) → Reads Q x → Reads Q (follow-or o k s x)
+or-any (some r) k x f q = f (r .0) (r .1)
+or-any none k x f q = q
+
+only-then : {A : Type 0} {Q : A → Type 0} {s : Bytes} (t : Bool) (k : Unit {0} → Placed A) (n : ℕ) → (t ≡ true → Ever Q s (k tt))
+    → Reads Q (follow (only-if t s n) k s)
+only-then true k n f = f refl n
+only-then false k n f = reads-not
+
+both-true : (t u : Bool) → (t && u) ≡ true → u ≡ true
+both-true true u e = e
+both-true false u e = let z : _≡_ {A = ℕ} 0 1 = cc in absurd (omega arith)
+
+choose-reads : {A : Type 0} {P : A → Type 0} {s : Bytes} {cs : List (ℕ × Placed A)} (other : Placed A) → All (λ c. Ever P s (c .1)) cs
+    → Ever P s other → Ever P s (choose-or cs other)
+unfolding choose-or
+choose-reads other none-of q n = q n
+choose-reads {A} {P} {s} other (and-all {a = c} p ps) q n = either (eqb (c .0) (byte-at s n)) (p (after s n)) (choose-reads other ps q n)
+
+digit-reads : (s : Bytes) → Ever (λ d. d ≤ 9) s digit
+digit-reads s n = small (digit s n) refl
+  where
+    small : (o : Option (ℕ × ℕ)) → digit s n ≡ o → Reads (λ d. d ≤ 9) o
+    small none e = reads-not
+    small (some r) e = reads (digit-small s n (r .0) (r .1) e)
+
+module _ (s : Bytes) where
+  -- `{n{m}}`
+  abbrev Digits : ℕ × ℕ → Type 0
+  Digits d = (d .0 ≤ 9) × (d .1 ≤ 9)
+
+  scales-reads : Ever Digits s place.scales
+  unfolding place.scales
+  scales-reads n =
+      or-then _ _ (digit-reads s n)
+      (λ d p k. or-then _ _ (digit-reads s k) (λ e q j. reads (p, q)) (reads (p, p)))
+      (reads (lit≤ tt, lit≤ tt))
+
+  -- `(fill num)`, "this num 1 to 99"
+  abbrev Narrow : Fill → Type 0
+  Narrow f = field-width (fill-of f) ≤ 99
+
+  width-reads : (b : ℕ) → Ever Narrow s (place.fill-field b)
+  unfolding place.fill-field field-width fill-of
+  width-reads b n =
+      follow-any (num s n) _ (λ v k. only-then (within 1 99 v) _ k (λ e j. follow-any (this 41 s j) _ (λ _ i. reads (leb-true v 99 (both-true (leb 1 v) (leb v 99) e)))))
+
+  fill-reads : Ever Narrow s place.fill-part
+  unfolding place.fill-part place.fill-width field-width fill-of
+  fill-reads = choose-reads _ (and-all (λ n. follow-any (place.fill-byte s n) _ width-reads) none-of) (λ n. reads (lit≤ tt))
+
+  mask-reads : (left : Bool) → Ever Conversion-within s (place.mask-code left)
+  unfolding place.mask-code mask-of
+  mask-reads left n =
+      follow-then _ (scales-reads n) (λ nm p j.
+      follow-any (flag 90 s j) _ (λ z k.
+      follow-any (flag 44 s k) _ (λ commas l.
+      follow-any (place.credit-letter s l) _ (λ cr o.
+      follow-any (flag 36 s o) _ (λ dollar q.
+      follow-then _ (fill-reads q) (λ fill w r.
+      reads (mask-within (record { decimals = p .0; scale = p .1; width = w }))))))))
+
+  -- `D{n}{s}`, "n 0 to 4"
+  date-reads : {d : ℕ} → d ≤ 4 → Ever Conversion-within s (place.date-after d)
+  unfolding place.date-after
+  date-reads h n = either (is-separator (byte-at s n)) (reads (date-within h)) (reads (date-within h))
+
+  dates-read : Ever Conversion-within s place.date-code
+  unfolding place.date-code digit-value
+  dates-read n = digits (leb 48 (byte-at s n)) (leb (byte-at s n) 52) refl
+    where
+      digits : (t u : Bool) → leb (byte-at s n) 52 ≡ u
+          → Reads Conversion-within (if t && u then place.date-after (byte-at s n - 48) s (after s n) else place.date-after 4 s n)
+      digits true true e = let h : byte-at s n ≤ 52 = leb-true _ _ e in date-reads (omega arith) (after s n)
+      digits true false e = date-reads (lit≤ tt) n
+      digits false u e = date-reads (lit≤ tt) n
+
+  plain-reads : (r : Placed Plain) → Ever Conversion-within s (place.as-plain r)
+  plain-reads r n = any (r s n)
+    where
+      any : (o : Option (Plain × ℕ)) → Reads Conversion-within (place.plained o)
+      any none = reads-not
+      any (some q) = reads plain-within
+
+  masking-reads : Ever Conversion-within s place.masking-code
+  unfolding place.masking-code
+  masking-reads =
+      choose-reads _
+      (and-all (plain-reads place.character-code)
+      (and-all (λ n. reads plain-within)
+      (and-all (λ n. reads plain-within)
+      (and-all (mask-reads true)
+      (and-all (mask-reads false) none-of)))))
+      (λ n. reads-not)
+
+  pub conversion-reads : Ever Conversion-within s place.conversion
+  unfolding place.conversion
+  conversion-reads =
+      choose-reads _
+      (and-all (plain-reads place.group-code)
+      (and-all (plain-reads place.extract-code)
+      (and-all (plain-reads place.length-code)
+      (and-all masking-reads
+      (and-all dates-read none-of)))))
+      (λ n. reads-not)
+
+  -- a quote closes at a byte from here on
+  closes : (q : ℕ) (bs : Bytes) (at close : ℕ) → place.closing q bs at ≡ some close → (at ≤ close) × (close < at + length bs)
+  unfolding place.closing
+  closes q [] at close e = let z : _≡_ {A = ℕ} 0 1 = cc in absurd (omega arith)
+  closes q (b ∷ bs) at close e = here (eqb b q) e (closes q bs (suc at) close)
+    where
+      here : (t : Bool) → (if t then some at else place.closing q bs (suc at)) ≡ some close
+          → (place.closing q bs (suc at) ≡ some close → (suc at ≤ close) × (close < suc at + length bs)) → (at ≤ close) × (close < at + length (b ∷ bs))
+      here true e again = let same : at ≡ close = cc in omega arith
+      here false e again = let h = again e in omega arith
+
+  literal-reads : (q : ℕ) → Ever (Elm-within s) s (place.literal-elm q)
+  unfolding place.literal-elm
+  literal-reads q n = placed (place.closing q (drop n s) n) refl
+    where
+      placed : (o : Option ℕ) → place.closing q (drop n s) n ≡ o → Reads (Elm-within s) (place.placed-literal n o)
+      placed none e = reads-not
+      placed (some close) e =
+          let h = closes q (drop n s) n close e in
+          reads (push-within (literal-within {start = n} {len = close - n} (omega (arith, length-drop n s))))
+
+  -- the elms of one byte
+  single-reads : Ever (Elm-within s) s place.single-elm
+  unfolding place.single-elm
+  single-reads =
+      choose-reads _
+      (and-all (λ n. reads (binary-within divide-within))
+      (and-all (λ n. reads (binary-within rest-within))
+      (and-all (λ n. reads (binary-within add-within))
+      (and-all (λ n. reads (binary-within subtract-within))
+      (and-all (λ n. reads (binary-within concatenate-within))
+      (and-all (λ n. reads exchange-within)
+      (and-all (λ n. reads duplicate-within)
+      (and-all (λ n. reads (binary-within relate-within))
+      (and-all (λ n. reads (binary-within relate-within))
+      (and-all (λ n. reads (binary-within relate-within))
+      (and-all (λ n. reads (binary-within relate-within))
+      (and-all (λ n. reads (binary-within relate-within)) none-of))))))))))))
+      (λ n. reads-not)
+
+  longer-reads : Ever (Elm-within s) s place.longer-elm
+  unfolding place.longer-elm place.previous-elm place.multiply-elm place.bracket-elm place.converting-elm
+  longer-reads =
+      choose-reads _
+      (and-all (literal-reads 39)
+      (and-all (literal-reads 34)
+      (and-all (λ n. follow-any (this 80 s n) _ (λ _ j. follow-any (this 86 s j) _ (λ _ k. reads (push-within previous-within))))
+      (and-all (λ n. or-then _ _ (digit-reads s n) (λ d p k. reads (binary-within (multiply-within p))) (reads (binary-within (multiply-within (lit≤ tt)))))
+      (and-all (choose-reads _ (and-all (λ n. reads substring-within) none-of) (λ n. reads (binary-within relate-within)))
+      (and-all (λ n. follow-then _ (conversion-reads n) (λ c p j. follow-any (this 41 s j) _ (λ _ k. reads (convert-within p)))) none-of))))))
+      single-reads
+
+  -- what an elm's reader reads
+  pub elm-reads : Ever (Elm-within s) s place.elm
+  unfolding place.elm place.attribute-elm
+  elm-reads n = or-any (numeral 2 s n) _ _ (λ d k. follow-any (place.repeats s k) _ (λ r j. reads (push-within attribute-within))) (longer-reads n)

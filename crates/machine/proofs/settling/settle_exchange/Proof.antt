@@ -1,0 +1,105 @@
+-- `machine::settling::settle_exchange` meets its contract: 15 with nothing changed, or the two slots exchanged.
+use mathlib.Core.Path.{_≡_, sym}
+use Prim.Native.Nat.{ℕ, _+_}
+use native.Mathlib.Omega.{arith}
+use Rattle.paper.specs.Sizes.{entry-most}
+use Rattle.machine.proofs.Laws.{entry-length}
+use Rattle.machine.proofs.Effects.{exchange-over, exchange-within}
+use borrow.Author.Needs.{needs}
+use Rattle.machine.proofs.settling.settle_exchange.Statement.{statement}
+use Rattle.machine.proofs.settling.settle_exchange.Tie as tie
+use Rattle.machine.proofs.settling.settle_exchange.Reads as reads
+use Rattle.machine.proofs.settling.settle_exchange.Lts as lts
+use Rattle.machine.proofs.slots.exchange.Reads as exchange-reads
+
+-- src/settling.rt:72:16
+mul-both : tie.Need-mul-both
+mul-both c = search needs
+
+-- src/settling.rt:72:16
+slice-read-both : tie.Need-slice-read-both
+slice-read-both c = search needs
+
+-- src/settling.rt:72:38
+add-both : tie.Need-add-both
+add-both c = search needs
+
+-- src/settling.rt:72:33
+mul-both-2 : tie.Need-mul-both-2
+mul-both-2 c = search needs
+
+-- src/settling.rt:72:33
+slice-read-both-2 : tie.Need-slice-read-both-2
+slice-read-both-2 c = search needs
+
+-- src/settling.rt:72:16
+add-both-2 : tie.Need-add-both-2
+unfolding entry-most
+add-both-2 c = let start = c .before .before .before .before in omega (arith, start .pre .0 .fits (start .args .k), start .pre .0 .fits (start .args .k + 1))
+
+-- src/settling.rt:73:16
+add-cost : tie.Need-add-cost
+unfolding entry-most
+add-cost c = let start = c .before .before .before .before in omega (arith, start .pre .0 .fits (start .args .k), start .pre .0 .fits (start .args .k + 1))
+
+-- src/settling.rt:73:16
+add-cost-2 : tie.Need-add-cost-2
+unfolding entry-most
+add-cost-2 c = let start = c .before .before .before .before in omega (arith, start .pre .0 .fits (start .args .k), start .pre .0 .fits (start .args .k + 1))
+
+-- src/settling.rt:75:9
+returns : tie.Need-returns
+returns c =
+    let start = c .before .before .before .before .before in
+    let k = start .args .k in
+    exchange-over (start .pre .0) (start .args .left) k _ _
+    (sym (entry-length (start .pre .0) k (omega arith)))
+    (sym (entry-length (start .pre .0) (k + 1) (omega arith)))
+    (c .if1 .taken)
+
+-- src/settling.rt:77:5
+exchange-requires : tie.Need-exchange-requires
+exchange-requires c κs = search needs
+
+-- src/settling.rt:78:30
+add-t7 : tie.Need-add-t7
+add-t7 c = search needs
+
+-- src/settling.rt:68:1
+same-length : tie.Need-same-length
+same-length c = search needs
+
+-- src/settling.rt:68:1
+same-length-2 : tie.Need-same-length-2
+same-length-2 c = search needs
+
+-- src/settling.rt:68:1
+returns-2 : tie.Need-returns-2
+returns-2 c =
+    let exchange = c .before .before .before .before in
+    let start = exchange .before .before .before .before .before .before .before .before in
+    let k = start .args .k in
+    exchange-within (start .pre .0) (start .args .left) k _ _ (start .pre .1)
+    (sym (entry-length (start .pre .0) k (omega arith)))
+    (sym (entry-length (start .pre .0) (k + 1) (omega arith)))
+    (search needs)
+    (exchange .exchange .ensures)
+
+pub settle-exchange-spec : {M : Type 1} → statement M
+settle-exchange-spec =
+    tie.close
+    (tie.spec
+    mul-both
+    slice-read-both
+    add-both
+    mul-both-2
+    slice-read-both-2
+    add-both-2
+    add-cost
+    add-cost-2
+    returns
+    exchange-requires
+    add-t7
+    same-length
+    same-length-2
+    returns-2)

@@ -1,0 +1,80 @@
+-- `machine::slots::copy` meets its contract: the bytes of one slot go to the other within the scratch, and the length with them.
+use borrow.Author.Needs.{needs}
+use denote.Ref.{now}
+use mathlib.Core.Path.{_≡_, refl, sym, ap}
+use Prim.Native.Nat.{ℕ}
+use native.Mathlib.Omega.{arith}
+use lib.ListN.{set}
+use Rattle.paper.specs.Sizes.{entry-most, scratch-least}
+use Rattle.machine.specs.Slots.{put-in, put-length, entry-at}
+use Rattle.machine.proofs.Laws.{slot-ends, slot-within, entry-length}
+use Rattle.machine.proofs.slots.copy.Statement.{statement}
+use Rattle.machine.proofs.slots.copy.Tie as tie
+use Rattle.machine.proofs.slots.copy.Reads as reads
+use Rattle.machine.proofs.slots.copy.Lts as lts
+use Rattle.lent.proofs.copy_within.Reads as copy-within-reads
+
+-- src/slots.rt:42:17
+mul-count : tie.Need-mul-count
+mul-count c = search needs
+
+-- src/slots.rt:42:17
+slice-read-count : tie.Need-slice-read-count
+slice-read-count c = search needs
+
+-- src/slots.rt:43:32
+mul-copy-within : tie.Need-mul-copy-within
+mul-copy-within c = search needs
+
+-- src/slots.rt:43:53
+mul-copy-within-2 : tie.Need-mul-copy-within-2
+mul-copy-within-2 c = search needs
+
+-- src/slots.rt:43:5
+copy-within-requires : tie.Need-copy-within-requires
+unfolding entry-most
+copy-within-requires c κs =
+    let start = c .before .before .before .before in (
+      slot-ends (start .pre .0) (start .args .from) (start .pre .1),
+      omega (arith, slot-within (start .args .to) (start .pre .2), start .pre .0 .fits (start .args .from), start .pre .0 .long),
+    )
+
+-- src/slots.rt:44:5
+mul-lens : tie.Need-mul-lens
+mul-lens c = search needs
+
+-- src/slots.rt:44:5
+slice-write-lens : tie.Need-slice-write-lens
+slice-write-lens c = search needs
+
+-- src/slots.rt:37:1
+same-length : tie.Need-same-length
+same-length c = search needs
+
+-- src/slots.rt:37:1
+same-length-2 : tie.Need-same-length-2
+same-length-2 c = search needs
+
+-- src/slots.rt:37:1
+returns : tie.Need-returns
+unfolding entry-most entry-at put-in put-length
+returns c =
+    let start = c .before .before .before .before .before .before .before in (
+      c .before .before .copy-within .ensures,
+      ap (λ (n : ℕ). set (now (start .args .lens)) (start .args .to) n) (sym (entry-length (start .pre .0) (start .args .from) (start .pre .1))),
+    )
+
+pub copy-spec : {M : Type 1} → statement M
+copy-spec =
+    tie.close
+    (tie.spec
+    mul-count
+    slice-read-count
+    mul-copy-within
+    mul-copy-within-2
+    copy-within-requires
+    mul-lens
+    slice-write-lens
+    same-length
+    same-length-2
+    returns)

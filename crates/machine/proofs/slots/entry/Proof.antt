@@ -1,0 +1,40 @@
+-- `machine::slots::entry` meets its contract: the slot's bytes lie within the scratch.
+use Prim.Native.Nat.{_*_}
+use denote.Ref.{now}
+use native.Mathlib.Omega.{arith}
+use borrow.Author.Needs.{needs}
+use lib.ListN.{getD}
+use Rattle.paper.specs.Sizes.{entry-most}
+use Rattle.machine.specs.Slots.{entry-at}
+use Rattle.machine.proofs.Laws.{slot-ends, from-to}
+use Rattle.machine.proofs.slots.entry.Statement.{statement}
+use Rattle.machine.proofs.slots.entry.Tie as tie
+use Rattle.machine.proofs.slots.entry.Reads as reads
+use Rattle.machine.proofs.slots.entry.Lts as lts
+
+add-to : tie.Need-add-to
+unfolding entry-most
+add-to c = omega (arith, slot-ends (c .before .pre .0) (c .before .args .k) (c .before .pre .1))
+
+part-result-end : tie.Need-part-result-end
+unfolding entry-most
+part-result-end c = slot-ends (c .before .pre .0) (c .before .args .k) (c .before .pre .1)
+
+returns : tie.Need-returns
+unfolding entry-most entry-at
+returns c =
+    let a = c .before .before .args in
+    from-to (now (a .scratch)) (a .k * entry-most) (getD (now (a .lens)) (a .k) 0)
+
+pub entry-spec : {M : Type 1} → statement M
+entry-spec =
+    tie.close
+    (tie.spec
+    (λ c. search needs)
+    (λ c. search needs)
+    (λ c. search needs)
+    add-to
+    (λ c. search needs)
+    (λ c. search needs)
+    part-result-end
+    returns)

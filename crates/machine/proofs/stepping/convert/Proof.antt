@@ -1,0 +1,40 @@
+-- `machine::stepping::convert` meets its contract: what the code gives of the entry, put in its place.
+use borrow.Author.Needs.{needs}
+use native.Mathlib.Omega.{arith}
+use Rattle.paper.specs.Sizes.{entry-most}
+use Rattle.machine.proofs.Laws.{entry-read}
+use Rattle.machine.proofs.Effects.{gave-fits, converted-gave, settles-as}
+use Rattle.machine.proofs.stepping.convert.Statement.{statement}
+use Rattle.machine.proofs.stepping.convert.Tie as tie
+
+give-requires : tie.Need-give-requires
+give-requires c κs =
+    let start = c .before .before .before .before .before .before .before in
+    (entry-read (start .pre .0) _ (omega arith) (c .before .entry .ensures), start .pre .3, start .pre .2)
+
+settle-given-requires : tie.Need-settle-given-requires
+unfolding entry-most
+settle-given-requires c κs =
+    let gave = c .before .before .before .before .before in
+    let start = gave .before .before .before .before .before .before .before .before in (
+      (start .pre .0, start .pre .1, omega (arith, entry-read (start .pre .0) _ (omega arith) (gave .before .before .entry .ensures))),
+      (gave-fits entry-most _ (gave .give .ensures .0), omega (arith, start .pre .3, gave .give .kept)),
+    )
+
+returns : tie.Need-returns
+returns c =
+    let settled = c .before .before .before .before in
+    let gave = settled .before .before .before .before .before .before in
+    settles-as (converted-gave _ _ _ _ _ _ (gave .before .before .entry .ensures) (gave .give .ensures)) (settled .settle-given .ensures)
+
+pub convert-spec : {M : Type 1} → statement M
+convert-spec =
+    tie.close
+    (tie.spec
+    (λ c κs. search needs)
+    give-requires
+    settle-given-requires
+    (λ c. search needs)
+    (λ c. search needs)
+    (λ c. search needs)
+    returns)

@@ -1,0 +1,45 @@
+-- What the grammar keeps an elm's numbers within: the functions of the machine take no others.
+use Prim.Native.Nat.{ℕ, _+_, _≤_}
+use lib.ListN.{length}
+use Rattle.paper.specs.Bytes.{Bytes}
+use Rattle.codes.specs.declared.Relation.{Relation}
+use Rattle.codes.specs.declared.Operator.{Operator}
+use Rattle.codes.specs.declared.Mask.{Mask}
+use Rattle.codes.specs.declared.Plain.{Plain}
+use Rattle.codes.specs.declared.Separator.{Separator}
+use Rattle.codes.specs.declared.Conversion.{Conversion}
+use Rattle.codes.specs.declared.Repeat.{Repeat}
+use Rattle.codes.specs.declared.Operand.{Operand}
+use Rattle.codes.specs.declared.Elm.{Elm}
+use Rattle.codes.specs.Meaning.{mask-of}
+use Rattle.masks.specs.Bounds.{Bounded}
+
+-- a literal lies within its code
+pub data Operand-within (code : Bytes) : Operand → Type 0 where
+  attribute-within : {n : ℕ} {r : Repeat} → Operand-within code (Operand.Attribute n r)
+  literal-within : {start len : ℕ} → start + len ≤ length code → Operand-within code (Operand.Literal start len)
+  previous-within : Operand-within code Operand.Previous
+
+-- `*n`: n is a digit
+pub data Operator-within : Operator → Type 0 where
+  multiply-within : {n : ℕ} → n ≤ 9 → Operator-within (Operator.Multiply n)
+  divide-within : Operator-within Operator.Divide
+  rest-within : Operator-within Operator.Rest
+  add-within : Operator-within Operator.Add
+  subtract-within : Operator-within Operator.Subtract
+  concatenate-within : Operator-within Operator.Concatenate
+  relate-within : {r : Relation} → Operator-within (Operator.Relate r)
+
+-- a mask as `masks` takes it; "D{n}{s}, n 0 to 4"
+pub data Conversion-within : Conversion → Type 0 where
+  plain-within : {p : Plain} → Conversion-within (Conversion.Plain p)
+  mask-within : {m : Mask} → Bounded (mask-of m) → Conversion-within (Conversion.Mask m)
+  date-within : {n : ℕ} {s : Separator} → n ≤ 4 → Conversion-within (Conversion.Date n s)
+
+pub data Elm-within (code : Bytes) : Elm → Type 0 where
+  push-within : {o : Operand} → Operand-within code o → Elm-within code (Elm.Push o)
+  binary-within : {o : Operator} → Operator-within o → Elm-within code (Elm.Binary o)
+  substring-within : Elm-within code Elm.Substring
+  exchange-within : Elm-within code Elm.Exchange
+  duplicate-within : Elm-within code Elm.Duplicate
+  convert-within : {c : Conversion} → Conversion-within c → Elm-within code (Elm.Convert c)

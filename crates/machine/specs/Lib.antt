@@ -1,0 +1,5 @@
+pub mod Slots
+pub mod Operators
+pub mod Bounds
+pub mod Stepping
+pub mod Runs

@@ -1,0 +1,21 @@
+// The machine: one step of a code, one code, one element through all codes (document 01, "What each code gives" and "Steps").
+// The stack stands in the lent scratch; a step answers its cost or its refusal, and nothing is written before its own refusal is known.
+// Every statement is an equality with the run that crates/paper defines.
+pub mod giving;
+pub mod loading;
+pub mod running;
+mod settling;
+pub mod slots;
+pub mod stepping;
+
+// One step: its cost and the entries then held, or its refusal.
+pub enum Step {
+    Done { cost: u64, held: usize },
+    Refused(u64),
+}
+
+// A run of several steps: the steps then counted, or the refusal and the steps counted before it.
+pub enum Ran {
+    Done { steps: u64 },
+    Stopped { number: u64, steps: u64 },
+}
