@@ -157,3 +157,13 @@ budgeted-at-most item string a v s budget room scratch = go (decLe _ budget)
     go (no h) =
         let l : budget < convert-freely item string a v s room scratch .steps = omega arith in
         omega (arith, converting-over-budget item string a v s budget room scratch l .1 .held)
+
+-- The count reported is at most the budget.
+pub steps-within-budget : (item string : Bytes) (a v s budget room scratch : ℕ) → convert item string a v s budget room scratch .steps ≤ budget
+steps-within-budget item string a v s budget room scratch = go (decLe _ budget)
+  where
+    go : Dec (convert-freely item string a v s room scratch .steps ≤ budget) → convert item string a v s budget room scratch .steps ≤ budget
+    go (yes h) = omega (arith, ap (λ (o : Outcome). o .steps) (converting-within-budget item string a v s budget room scratch h))
+    go (no h) =
+        let l : budget < convert-freely item string a v s room scratch .steps = omega arith in
+        converting-over-budget item string a v s budget room scratch l .1 .held
