@@ -21,14 +21,18 @@ settle-given-requires c κs =
     let gave = c .before .before .before .before .before in
     let start = gave .before .before .before .before .before .before .before .before .before .before .before in
     let slotted = start .pre .0 in
-    let room = start .pre .1 in
-    ((slotted,
-    omega arith,
-    omega
-    (arith,
-    entry-read slotted _ (omega arith) (gave .before .before .before .before .before .entry .ensures),
-    entry-read slotted _ (omega arith) (gave .before .before .before .entry2 .ensures))),
-    (gave-fits entry-most _ (gave .binary .ensures .0), omega (arith, start .pre .3, gave .binary .kept)))
+    let room = start .pre .1 in (
+      (
+        slotted,
+        omega arith,
+        omega (
+          arith,
+          entry-read slotted _ (omega arith) (gave .before .before .before .before .before .entry .ensures),
+          entry-read slotted _ (omega arith) (gave .before .before .before .entry2 .ensures),
+        ),
+      ),
+      (gave-fits entry-most _ (gave .binary .ensures .0), omega (arith, start .pre .3, gave .binary .kept)),
+    )
 
 returns : tie.Need-returns
 returns c =
