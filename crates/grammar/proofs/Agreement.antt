@@ -138,12 +138,16 @@ module _ {s : Bytes} {low : ℕ} where
   more-digits-agrees (suc j) v = digit-aheads (λ d. more-digits-agrees j (v * 10 + d)) (gives-agrees v)
 
   -- a number eats a byte at least
-  num-at-agrees : (at : ℕ) → low ≤ suc at → at ≤ length s → Agree (λ (n : ℕ). n) s low (num s at) (paper.num (drop at s))
-  unfolding num numeral paper.num paper.numeral
-  num-at-agrees at g h = digit-ahead-agrees (more-digits 3) (paper.more-digits 3) fails paper.fails at g h (more-digits-agrees 3) neither
+  numeral-at-agrees : (j at : ℕ) → low ≤ suc at → at ≤ length s → Agree (λ (n : ℕ). n) s low (numeral j s at) (paper.numeral j (drop at s))
+  unfolding numeral paper.numeral
+  numeral-at-agrees j at g h = digit-ahead-agrees (more-digits j) (paper.more-digits j) fails paper.fails at g h (more-digits-agrees j) neither
+
+  pub numeral-agrees : (j : ℕ) → Agrees (λ (n : ℕ). n) s low (numeral j) (paper.numeral j)
+  numeral-agrees j = record { at = λ n l u. numeral-at-agrees j n (omega arith) u }
 
   pub num-agrees : Agrees (λ (n : ℕ). n) s low num paper.num
-  num-agrees = record { at = λ n l u. num-at-agrees n (omega arith) u }
+  unfolding num paper.num
+  num-agrees = numeral-agrees 3
 
   pub only-if-agrees : (t : Bool) → Agrees (λ (x : Unit {0}). x) s low (only-if t) (paper.only-if t)
   only-if-agrees true = gives-agrees tt
@@ -160,7 +164,8 @@ module _ {s : Bytes} {low : ℕ} where
 
 -- The number at a place is the paper's there, and each stops where the other does.
 pub num-reads : (s : Bytes) (at : ℕ) → at ≤ length s → Agree (λ (n : ℕ). n) s (suc at) (num s at) (paper.num (drop at s))
-num-reads s at h = num-at-agrees at (omega arith) h
+unfolding num paper.num
+num-reads s at h = numeral-at-agrees 3 at (omega arith) h
 
 -- the digits of a number always read something
 more-digits-read : (j v : ℕ) (s : Bytes) (at : ℕ) → (w : ℕ) × (n : ℕ) × (more-digits j v s at ≡ some (w, n))

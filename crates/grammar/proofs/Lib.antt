@@ -13,4 +13,5 @@ pub mod Strings
 pub mod Counts
 pub mod Walking
 pub mod Typed
+pub mod AddressForm
 pub mod Settled

@@ -11,6 +11,7 @@ use Rattle.grammar.proofs.checking.head.Reads as head
 use Rattle.grammar.proofs.checking.code_end.Reads as code-end
 use Rattle.grammar.proofs.check.Reads as check
 use Rattle.grammar.proofs.typed_date.Reads as typed-date
+use Rattle.grammar.proofs.addresses.address.Reads as address
 
 pub num-settled : (κs : Lfts 1) → (a : _) (r r′ : _) (e e′ : _) → num.Post κs a r e → num.Post κs a r′ e′ → r ≡ r′
 num-settled κs a r r′ e e′ p q = p ∙ sym q
@@ -41,3 +42,6 @@ check-settled κs a r r′ e e′ p q = p .0 ∙ sym (q .0)
 
 pub typed-date-settled : (κs : Lfts 2) → (a : _) (r r′ : _) (e e′ : _) → typed-date.Post κs a r e → typed-date.Post κs a r′ e′ → r ≡ r′
 typed-date-settled κs a r r′ e e′ p q = p ∙ sym q
+
+pub address-settled : (κs : Lfts 1) → (a : _) (r r′ : _) (e e′ : _) → address.Post κs a r e → address.Post κs a r′ e′ → r ≡ r′
+address-settled κs a r r′ e e′ p q = p ∙ sym q

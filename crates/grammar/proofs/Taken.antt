@@ -199,7 +199,7 @@ pub digit-above : {s : Bytes} {at b n : ℕ} → Peeked s at b n → 58 ≤ b �
 unfolding digit is-digit digit-value
 digit-above {s} {at} {b} p h = rw (← p .stands, within-above 48 57 b (omega arith))
 
-none-some : {A : Type 0} {o : Option A} {a : A} → o ≡ none → o ≡ some a → ⊥
+pub none-some : {A : Type 0} {o : Option A} {a : A} → o ≡ none → o ≡ some a → ⊥
 none-some e f = let z : _≡_ {A = ℕ} 0 1 = cc in omega arith
 
 pub some-one : {A : Type 0} {o : Option A} {a b : A} → o ≡ some a → o ≡ some b → a ≡ b
@@ -239,26 +239,27 @@ unfolding more-digits
 digits-done s at zero v h = refl
 digits-done s at (suc left) v h = absurd (omega arith)
 
--- no number of four digits passes 9,999: v with `left` digits to come
-pub digits-start : (v left : ℕ) → v ≤ 9 → left ≤ 3 → (v + 1) * 10 ^ left ≤ 10_000
+-- no number of five digits passes 99,999: v with `left` digits to come
+pub digits-start : (v left : ℕ) → v ≤ 9 → left ≤ 4 → (v + 1) * 10 ^ left ≤ 100_000
 digits-start v zero a b = omega arith
 digits-start v (suc zero) a b = omega arith
 digits-start v (suc (suc zero)) a b = omega arith
 digits-start v (suc (suc (suc zero))) a b = omega arith
-digits-start v (suc (suc (suc (suc left)))) a b = absurd (omega arith)
+digits-start v (suc (suc (suc (suc zero)))) a b = omega arith
+digits-start v (suc (suc (suc (suc (suc left))))) a b = absurd (omega arith)
 
 ten-pos : (k : ℕ) → 0 < 10 ^ k
 ten-pos zero = omega arith
 ten-pos (suc k) = let h = ten-pos k in rw pow-suc (omega arith)
 
-pub digits-room : (v left : ℕ) → (v + 1) * 10 ^ left ≤ 10_000 → v < 10_000
+pub digits-room : (v left : ℕ) → (v + 1) * 10 ^ left ≤ 100_000 → v < 100_000
 digits-room v left h = omega (arith, le-mul-of-pos-right (v + 1) (ten-pos left))
 
-pub digits-step : (v left d : ℕ) → 0 < left → d ≤ 9 → (v + 1) * 10 ^ left ≤ 10_000 → (v * 10 + d + 1) * 10 ^ (left - 1) ≤ 10_000
+pub digits-step : (v left d : ℕ) → 0 < left → d ≤ 9 → (v + 1) * 10 ^ left ≤ 100_000 → (v * 10 + d + 1) * 10 ^ (left - 1) ≤ 100_000
 digits-step v zero d h s r = absurd (omega arith)
 digits-step v (suc left) d h s r =
     let m = mul-le-mul-right (10 ^ left) (step v d s) in
-    let q : (v * 10 + d + 1) * 10 ^ left ≤ 10_000 = omega (arith, ap (λ k. (v + 1) * k) (pow-suc 10 left)) in
+    let q : (v * 10 + d + 1) * 10 ^ left ≤ 100_000 = omega (arith, ap (λ k. (v + 1) * k) (pow-suc 10 left)) in
     rw sub-one q
   where
     step : (v d : ℕ) → d ≤ 9 → v * 10 + d + 1 ≤ (v + 1) * 10

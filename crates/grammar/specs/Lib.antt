@@ -1,4 +1,5 @@
 pub mod Places
 pub mod Reading
+pub mod Addresses
 pub mod Answers
 pub mod Checking

@@ -1,6 +1,6 @@
 // Document 01, "The code grammar": D, and the codes other than F by their letters.
 use crate::ReadConversion;
-use crate::masks::mask_code;
+use crate::masking::mask_code;
 use crate::places::peek;
 use crate::plains::character_code;
 use crate::plains::extract_code;

@@ -1,10 +1,11 @@
 // Document 01, "The code grammar": reading codes, and checking a code string.
 // Readers look one byte ahead and commit; each answers what it read with the place after it, or that it is not in the grammar.
 // A literal is a place in the code, not a copy. Every contract is an equality with a definition that proofs/ tie to crates/paper.
+pub mod addresses;
 pub mod checking;
 pub mod conversions;
 pub mod elms;
-mod masks;
+mod masking;
 pub mod places;
 mod plains;
 
@@ -80,6 +81,12 @@ pub enum ReadConversion {
 
 pub enum ReadElm {
     Elm { elm: Elm, next: usize },
+    Bad,
+}
+
+// A typed address, or another form.
+pub enum ReadAddress {
+    Address { a: u64, v: u64, s: u64 },
     Bad,
 }
 

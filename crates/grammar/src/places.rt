@@ -60,7 +60,7 @@ pub(crate) fn digit(code: &[u8], at: usize) -> ReadNum
 
 // Up to `most` more digits.
 pub(crate) fn more_digits(code: &[u8], from: usize, first: u64, most: u64) -> Digits
-    requires { ⌜ (first ≤ 9) × (most ≤ 3) ⌝ }
+    requires { ⌜ (first ≤ 9) × (most ≤ 4) ⌝ }
     ensures { λ r. ⌜ some (r .value, r .next) ≡ more-digits most first (now (code .entry)) from ⌝ }
 {
     let mut value = first;
@@ -79,7 +79,7 @@ pub(crate) fn more_digits(code: &[u8], from: usize, first: u64, most: u64) -> Di
 
 // One digit, and up to `most` more.
 pub(crate) fn numeral(code: &[u8], at: usize, most: u64) -> ReadNum
-    requires { ⌜ most ≤ 3 ⌝ }
+    requires { ⌜ most ≤ 4 ⌝ }
     ensures { λ r. ⌜ r ≡ num-read (numeral most (now (code .entry)) at) ⌝ }
 {
     let ReadNum::Num { value, next } = digit(code, at) else {

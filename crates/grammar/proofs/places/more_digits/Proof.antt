@@ -1,4 +1,4 @@
--- `places::more_digits` meets its contract: from digit to digit what is still to be read stays the same, and the value stays below 10,000. Assumes nothing.
+-- `places::more_digits` meets its contract: from digit to digit what is still to be read stays the same, and the value stays below 100,000. Assumes nothing.
 use Prim.Native.Nat.{_+_, _*_, _^_, _≤_, _<_}
 use mathlib.Core.Path.{_≡_, refl, sym, _∙_}
 use native.Mathlib.Omega.{arith}
@@ -10,7 +10,7 @@ use Rattle.grammar.proofs.places.more_digits.Tie as tie
 
 abbrev Inv-loop : tie.InvT-loop
 Inv-loop code from first most value₀ at₀ left₀ value at left =
-    ((value + 1) * 10 ^ left ≤ 10_000) × (more-digits left value code at ≡ more-digits most first code from)
+    ((value + 1) * 10 ^ left ≤ 100_000) × (more-digits left value code at ≡ more-digits most first code from)
 
 abbrev μ-loop : tie.MeasureT-loop
 μ-loop code from first most value₀ at₀ left₀ value at left = left
@@ -22,7 +22,7 @@ returns c =
     sym (digits-stop _ (l .at) (l .left) (l .value) (c .before .before .before .loop-test .taken) e) ∙ l .inv .1
 
 -- the digit read, and the value before it
-small : (c : tie.After-known-told Inv-loop μ-loop) → (c .before .d .given .0 .0 ≤ 9) × (c .before .before .before .before .before .loop .value < 10_000)
+small : (c : tie.After-known-told Inv-loop μ-loop) → (c .before .d .given .0 .0 ≤ 9) × (c .before .before .before .before .before .loop .value < 100_000)
 small c =
     let l = c .before .before .before .before .before .loop in
     (digit-small _ _ _ _ (num-is (c .before .before .before .digit .ensures) (c .before .d .given .1)), digits-room (l .value) (l .left) (l .inv .0))

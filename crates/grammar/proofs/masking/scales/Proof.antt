@@ -1,10 +1,10 @@
--- `masks::scales` meets its contract. Assumes nothing.
+-- `masking::scales` meets its contract. Assumes nothing.
 use mathlib.Core.Path.{sym}
 use borrow.Author.Needs.{needs}
 use Rattle.grammar.proofs.Lines.{scales-none, scales-one, scales-two}
 use Rattle.grammar.proofs.Taken.{num-is}
-use Rattle.grammar.proofs.masks.scales.Statement.{statement}
-use Rattle.grammar.proofs.masks.scales.Tie as tie
+use Rattle.grammar.proofs.masking.scales.Statement.{statement}
+use Rattle.grammar.proofs.masking.scales.Tie as tie
 
 returns : tie.Need-returns
 returns c = sym (scales-none _ _ (num-is (c .before .before .digit .ensures) (c .enum-told .given .1)))

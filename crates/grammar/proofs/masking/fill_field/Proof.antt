@@ -1,9 +1,9 @@
--- `masks::fill_field` meets its contract: a width from 1 to 99, and the parenthesis. Assumes nothing.
+-- `masking::fill_field` meets its contract: a width from 1 to 99, and the parenthesis. Assumes nothing.
 use borrow.Author.Needs.{needs}
 use Rattle.grammar.proofs.Lines.{field-no-num, field-zero, field-wide, field-open, field-read}
 use Rattle.grammar.proofs.Taken.{num-is, fill-none, fill-some}
-use Rattle.grammar.proofs.masks.fill_field.Statement.{statement}
-use Rattle.grammar.proofs.masks.fill_field.Tie as tie
+use Rattle.grammar.proofs.masking.fill_field.Statement.{statement}
+use Rattle.grammar.proofs.masking.fill_field.Tie as tie
 
 returns : tie.Need-returns
 returns c = fill-none (field-no-num _ _ _ (num-is (c .before .before .num .ensures) (c .enum-told .given .1)))

@@ -1,9 +1,9 @@
--- `masks::mask_code` meets its contract: part by part. Assumes nothing.
+-- `masking::mask_code` meets its contract: part by part. Assumes nothing.
 use borrow.Author.Needs.{needs}
 use Rattle.grammar.proofs.Lines.{mask-bad, mask-read}
 use Rattle.grammar.proofs.Taken.{fill-is, conversion-none, conversion-some}
-use Rattle.grammar.proofs.masks.mask_code.Statement.{statement}
-use Rattle.grammar.proofs.masks.mask_code.Tie as tie
+use Rattle.grammar.proofs.masking.mask_code.Statement.{statement}
+use Rattle.grammar.proofs.masking.mask_code.Tie as tie
 
 returns : tie.Need-returns
 returns c =

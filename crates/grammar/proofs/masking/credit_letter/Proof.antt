@@ -1,10 +1,10 @@
--- `masks::credit_letter` meets its contract: by the arm that the byte took. Assumes nothing.
+-- `masking::credit_letter` meets its contract: by the arm that the byte took. Assumes nothing.
 use mathlib.Core.Path.{refl, sym}
 use borrow.Author.Needs.{needs}
 use Rattle.grammar.specs.Reading.{credit-letter}
 use Rattle.grammar.proofs.Taken.{chosen, missed}
-use Rattle.grammar.proofs.masks.credit_letter.Statement.{statement}
-use Rattle.grammar.proofs.masks.credit_letter.Tie as tie
+use Rattle.grammar.proofs.masking.credit_letter.Statement.{statement}
+use Rattle.grammar.proofs.masking.credit_letter.Tie as tie
 
 returns : tie.Need-returns
 unfolding credit-letter

@@ -1,11 +1,11 @@
--- `masks::fill_width` meets its contract: by the arm that the byte took. Assumes nothing.
+-- `masking::fill_width` meets its contract: by the arm that the byte took. Assumes nothing.
 use mathlib.Core.Path.{refl}
 use borrow.Author.Needs.{needs}
 use Rattle.grammar.specs.Reading.{fill-byte}
 use Rattle.grammar.proofs.Lines.{width-by, width-none}
 use Rattle.grammar.proofs.Taken.{chosen, missed, fill-none, fill-by}
-use Rattle.grammar.proofs.masks.fill_width.Statement.{statement}
-use Rattle.grammar.proofs.masks.fill_width.Tie as tie
+use Rattle.grammar.proofs.masking.fill_width.Statement.{statement}
+use Rattle.grammar.proofs.masking.fill_width.Tie as tie
 
 returns : tie.Need-returns
 unfolding fill-byte

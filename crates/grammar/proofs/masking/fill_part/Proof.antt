@@ -1,10 +1,10 @@
--- `masks::fill_part` meets its contract. Assumes nothing.
+-- `masking::fill_part` meets its contract. Assumes nothing.
 use mathlib.Core.Path.{refl}
 use borrow.Author.Needs.{needs}
 use Rattle.grammar.specs.Reading.{fill-part}
 use Rattle.grammar.proofs.Taken.{chosen, missed, fill-some, fill-by}
-use Rattle.grammar.proofs.masks.fill_part.Statement.{statement}
-use Rattle.grammar.proofs.masks.fill_part.Tie as tie
+use Rattle.grammar.proofs.masking.fill_part.Statement.{statement}
+use Rattle.grammar.proofs.masking.fill_part.Tie as tie
 
 returns : tie.Need-returns
 unfolding fill-part

@@ -1,0 +1,23 @@
+-- A typed address by place, and what each case of the answer is.
+use Prim.Native.Nat.{ℕ}
+use mathlib.Core.Option.{Option, none, some}
+use Rattle.paper.specs.Bytes.{ch}
+use Rattle.paper.specs.Program.{Address}
+use Rattle.grammar.specs.Places.{Placed, follow, _>>=_, _>>_, gives, this, numeral}
+use Rattle.grammar.specs.declared.ReadAddress.{ReadAddress}
+
+-- a comma and a number
+unfoldable pub another : Placed ℕ
+another = this (ch ",") >> numeral 4
+
+-- the paper's `address-form` by place
+unfoldable pub address : Placed Address
+address = do
+  a ← numeral 4
+  v ← another
+  s ← another
+  gives (record { a = a; v = v; s = s })
+
+unfoldable pub address-read : Option Address → ReadAddress
+address-read none = ReadAddress.Bad
+address-read (some p) = ReadAddress.Address (p .a) (p .v) (p .s)
