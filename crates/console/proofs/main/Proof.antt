@@ -1,0 +1,28 @@
+-- `main` is safe: what was read is a part of its buffer, and so is what is written. Assumes nothing.
+use mathlib.Core.Path.{sym}
+use borrow.Author.Needs.{needs}
+use lib.Seq.{length-take-le}
+use Rattle.console.proofs.Answering.{written}
+use Rattle.console.proofs.main.Statement.{statement}
+use Rattle.console.proofs.main.Tie as tie
+
+array-share-prefix-line : tie.Need-array-share-prefix-line
+array-share-prefix-line c = written _ _ (search needs) (c .before .answer .ensures .0) (c .before .answer .ensures .1)
+
+slice-aggregate-write-all : tie.Need-slice-aggregate-write-all
+slice-aggregate-write-all c = sym (length-take-le _ _ (written _ _ (search needs) (c .before .before .answer .ensures .0) (c .before .before .answer .ensures .1)))
+
+pub main-spec : {M : Type 1} → statement M
+main-spec =
+    tie.close
+    (tie.spec
+    (λ c. search needs)
+    (λ c κs. search needs)
+    (λ c. search needs)
+    (λ c. search needs)
+    (λ c. search needs)
+    (λ c κs. search needs)
+    array-share-prefix-line
+    slice-aggregate-write-all
+    (λ c κs. search needs)
+    (λ c. search needs))

@@ -1,0 +1,50 @@
+-- `respond` meets its contract: another form than an address, or the line of what is converted. Assumes nothing.
+use mathlib.Core.Path.{ap, _∙_}
+use native.Mathlib.Omega.{arith}
+use borrow.Author.Needs.{needs}
+use denote.Ref.{now}
+use lib.ListN.{length}
+use Rattle.lent.specs.Over.{over}
+use Rattle.console.proofs.Answering.{lent-output, lent-scratch, refusal-short, steps-short, length-fits, answer-short, line-is, address-bad, address-good, refused-line}
+use Rattle.console.proofs.respond.Statement.{statement}
+use Rattle.console.proofs.respond.Tie as tie
+
+returns : tie.Need-returns
+returns c = refused-line _ _ _ (address-bad _ (c .before .before .before .before .before .before .before .address .ensures) (c .before .before .before .before .before .enum-told .given .1)) (c .before .before .copy-in .ensures)
+
+part-show-end : tie.Need-part-show-end
+part-show-end c = omega (arith, length-fits _ _ _ _ _ (c .before .before .before .convert .ensures .0) (c .before .before .before .convert .ensures .1 .0) lent-output lent-scratch)
+
+show-requires : tie.Need-show-requires
+show-requires c κs = (
+  refusal-short _ _ _ _ _ (c .before .before .before .before .before .convert .ensures .0) (c .before .before .before .before .before .convert .ensures .1 .0) lent-output lent-scratch,
+  steps-short _ _ _ _ _ (c .before .before .before .before .before .convert .ensures .0) (c .before .before .before .before .before .convert .ensures .1 .0) lent-output lent-scratch,
+  answer-short _ _ _ _ _ (c .before .before .before .before .before .convert .ensures .0) (c .before .before .before .before .before .convert .ensures .1 .0) lent-output lent-scratch,
+  c .before .before .before .before .before .before .before .before .before .before .before .before .before .before .before .before .pre,
+)
+
+returns-2 : tie.Need-returns-2
+returns-2 c =
+    let e = line-is _ _ _ _ _ (c .before .before .before .before .before .before .before .before .convert .ensures .0) (c .before .before .before .before .before .before .before .before .convert .ensures .1 .0) lent-output lent-scratch (address-good _ (c .before .before .before .before .before .before .before .before .before .before .before .before .before .before .address .ensures) (c .before .before .before .before .before .before .before .before .before .before .before .before .a .given .1)) in
+    (c .before .before .show .ensures .0 ∙ ap length e, c .before .before .show .ensures .1 ∙ ap (over _ 0) e)
+
+pub respond-spec : {M : Type 1} → statement M
+respond-spec =
+    tie.close
+    (tie.spec
+    (λ c κs. search needs)
+    (λ c. search needs)
+    (λ c. search needs)
+    (λ c. search needs)
+    (λ c κs. search needs)
+    (λ c. search needs)
+    returns
+    (λ c. search needs)
+    (λ c. search needs)
+    (λ c κs. search needs)
+    (λ c. search needs)
+    (λ c. search needs)
+    part-show-end
+    show-requires
+    (λ c. search needs)
+    returns-2)

@@ -1,0 +1,19 @@
+-- The line that the program writes, in its parts.
+use Prim.Native.Nat.{ℕ, _+_}
+use mathlib.Core.List.{List, [], _∷_, _++_, map}
+use Rattle.paper.specs.Bytes.{Bytes, ch}
+use Rattle.paper.specs.Sizes.{number-digits, record-most}
+use Rattle.paper.specs.Numbers.{decimal}
+use Rattle.paper.specs.Program.{drawn}
+
+-- a number and the blank behind it
+unfoldable pub numbered : ℕ → Bytes
+numbered n = decimal n ++ ch " " ∷ []
+
+-- "refusal number (0 for none), steps and answer, parted by single blanks, marks drawn", and a line end
+unfoldable pub shown : ℕ → ℕ → Bytes → Bytes
+shown refusal steps answer = ((numbered refusal ++ numbered steps) ++ map drawn answer) ++ 10 ∷ []
+
+-- no line is longer: two numbers and their blanks, an answer and a line end
+abbrev pub line-most : ℕ
+line-most = number-digits + 1 + (number-digits + 1) + record-most + 1
