@@ -1,0 +1,265 @@
+//! The examples of document 01, and the points at which its readings part.
+
+use sundewfrill_host::outcome::{Address, Check, Convert, Implementation, TypedDate};
+use sundewfrill_host::{paper, SCRATCH_LENGTH};
+
+use super::buffers::Buffers;
+use super::calls::{ConvertCall, ReplaceCall};
+
+/// Bytes with the marks drawn: `^`, `]` and `\` become 254, 253 and 252.
+pub fn marked(text: &str) -> Vec<u8> {
+    let mark = |byte| match byte {
+        b'^' => paper::ATTRIBUTE_MARK,
+        b']' => paper::VALUE_MARK,
+        b'\\' => paper::SUBVALUE_MARK,
+        _ => byte,
+    };
+    text.bytes().map(mark).collect()
+}
+
+/// Converts `record` at `at` by `code` and gives refusal, steps and answer.
+fn converted(
+    implementation: &Implementation,
+    record: &[u8],
+    code: &str,
+    at: Address,
+    budget: u64,
+) -> (Convert, Vec<u8>) {
+    let call = ConvertCall {
+        record: record.to_vec(),
+        code: code.as_bytes().to_vec(),
+        at,
+        budget,
+        output_length: paper::RECORD_LENGTH,
+        scratch_length: SCRATCH_LENGTH,
+    };
+    let mut buffers = Buffers::default();
+    let outcome = call.run(implementation, &mut buffers);
+    let answer = buffers.output.after()[..outcome.length as usize].to_vec();
+    (outcome, answer)
+}
+
+/// The refusal number and the answer of `code` on one element.
+fn given(implementation: &Implementation, code: &str, element: &str) -> (u64, String) {
+    let record = [b"K1\xfe", element.as_bytes()].concat();
+    let at = Address::new(1, 1, 1);
+    let (outcome, answer) = converted(implementation, &record, code, at, u64::MAX);
+    (
+        outcome.refusal,
+        String::from_utf8_lossy(&answer).into_owned(),
+    )
+}
+
+/// Runs all examples.
+pub fn run(implementation: &Implementation) {
+    counted(implementation);
+    single_codes(implementation);
+    lengths(implementation);
+    replacing(implementation);
+    checking(implementation);
+    typed_dates(implementation);
+}
+
+/// Steps, budget and ceiling.
+fn counted(implementation: &Implementation) {
+    let record = marked("K1^10]20^3");
+    let at = Address::new(1, 0, 0);
+    let whole = converted(implementation, &record, "F;1;2R;*", at, 1_000_000);
+    let expected = Convert {
+        refusal: 0,
+        steps: 62,
+        length: 5,
+    };
+    assert_eq!(whole, (expected, marked("30]60")));
+    let exact = converted(implementation, &record, "F;1;2R;*", at, 62);
+    assert_eq!(exact, whole);
+    let short = converted(implementation, &record, "F;1;2R;*", at, 61);
+    let expected = Convert {
+        refusal: 15,
+        steps: 56,
+        length: 0,
+    };
+    assert_eq!(short, (expected, Vec::new()));
+    let counts = (implementation.check)(b"F;1;2R;*");
+    let elements = paper::element_count(&record, at).unwrap();
+    assert_eq!(
+        paper::ceiling(elements, counts.loads, counts.others, 10),
+        12_334
+    );
+    let input = b"F;1;2R;*\n1,0,0\nK1\xfe10\xfd20\xfe3";
+    let output = paper::program_with(input, implementation.convert);
+    assert_eq!(output, b"0 62 30]60\n");
+}
+
+/// What single codes give, or with which number they refuse.
+fn single_codes(implementation: &Implementation) {
+    const TABLE: [(&str, &str, u64, &str); 60] = [
+        // From the paper.
+        ("F;'7';'2';-", "", 0, "5"),
+        ("F;'-7';'2';/", "", 0, "-3"),
+        ("F;'-7';'2';R", "", 0, "-1"),
+        ("F;'7';'0';/", "", 11, ""),
+        ("F;1;+", "", 7, ""),
+        ("D", "0", 0, "31 DEC 1967"),
+        ("D", "60", 0, "29 FEB 1968"),
+        ("D2/", "1", 0, "01/01/68"),
+        ("D", "10000", 0, "18 MAY 1995"),
+        ("D", "-1", 0, "30 DEC 1967"),
+        ("D", "2933628", 0, "31 DEC 9999"),
+        ("D", "2933629", 10, ""),
+        ("MR2", "1234", 0, "12.34"),
+        ("MR2M", "-5", 0, "0.05-"),
+        ("MR01", "25", 0, "3"),
+        ("MR01", "-25", 0, "-2"),
+        ("MR2(#4)", "1234", 14, ""),
+        ("G1*1", "AB*CD*EF", 0, "CD"),
+        ("T2,3", "ABCDE", 0, "BCD"),
+        // Where it can be misread.
+        ("D", "-718430", 0, "01 JAN 0001"),
+        ("D", "-718431", 10, ""),
+        ("D0", "0", 0, "31 DEC"),
+        ("D0/", "0", 0, "12/31"),
+        ("D ", "0", 0, "12 31 1967"),
+        ("D1", "0", 0, "31 DEC 7"),
+        ("D", "", 0, ""),
+        ("D", "x", 12, ""),
+        ("MR2$", "-5", 0, "$-0.05"),
+        ("MR2E$", "-5", 0, "$<0.05>"),
+        ("MR2E", "5", 0, "0.05 "),
+        ("MR0D", "-5", 0, "-5  "),
+        ("MR0D", "5", 0, "5DB"),
+        ("MR0C", "-5", 0, "5CR"),
+        ("MR0C", "0", 0, "0  "),
+        ("MR0N", "-5", 0, "5"),
+        ("MR(%5)", "-5", 0, "000-5"),
+        ("ML(*5)", "-5", 0, "-5***"),
+        ("MRZ(*3)", "-0", 0, "   "),
+        ("MRZC$", "000", 0, ""),
+        ("MR01Z", "4", 0, "0"),
+        ("MR20", "5", 0, "5.00"),
+        ("MR,", "-1234567", 0, "-1,234,567"),
+        ("MR9", "1234567890123", 0, "1234.567890123"),
+        ("MR90", "1000000", 10, ""),
+        ("MR", "999999999999999", 0, "999999999999999"),
+        ("MR(#3)", "", 0, ""),
+        ("MR", "1.5", 12, ""),
+        ("MY", "4b31", 0, "K1"),
+        ("MY", "FB", 13, ""),
+        ("MY", "FBx", 12, ""),
+        ("MX", "K1", 0, "4B31"),
+        ("MCT", "3rd of JULY", 0, "3Rd Of July"),
+        ("L", "", 0, "0"),
+        ("G2*1", "A*B", 0, ""),
+        ("F;LPV;'5';[", "3", 0, "1"),
+        ("F;LPV;'0';=", "", 0, "0"),
+        ("F;'9999999999999999';P;=", "", 10, ""),
+        ("F;'9999999999999999';'x';<", "", 0, "1"),
+        ("F;'ABC';'-3';'2';[]", "", 0, "AB"),
+        ("F;'999999999999999';'10';*1", "", 10, ""),
+    ];
+    for (code, element, refusal, answer) in TABLE {
+        let outcome = given(implementation, code, element);
+        assert_eq!(
+            outcome,
+            (refusal, answer.to_owned()),
+            "{code} on {element:?}"
+        );
+    }
+}
+
+/// Lengths on both sides of a limit.
+fn lengths(implementation: &Implementation) {
+    for (code, length, refusal) in [
+        ("MX", 512, 0),
+        ("MX", 513, 9),
+        ("", 1_024, 0),
+        ("", 1_025, 9),
+        ("F;1;P;:", 512, 0),
+        ("F;1;P;:", 513, 9),
+    ] {
+        let outcome = given(implementation, code, &"a".repeat(length));
+        assert_eq!(outcome.0, refusal, "{code} on {length} bytes");
+    }
+}
+
+/// Places replaced and made.
+fn replacing(implementation: &Implementation) {
+    for (record, (a, v, s), new, result) in [
+        ("K1^A", (3, 2, 1), "X", "K1^A^^]X"),
+        ("K1", (1, 0, 0), "", "K1^"),
+        ("K1", (1, 1, 1), "X", "K1^X"),
+        ("K1^A\\B]C^D", (1, 1, 3), "X", "K1^A\\B\\X]C^D"),
+        ("K1^A\\B]C^D", (1, 1, 0), "X", "K1^X]C^D"),
+        ("K1^A\\B]C^D", (1, 4, 2), "X", "K1^A\\B]C]]\\X^D"),
+        ("K1^A", (0, 0, 0), "", "^A"),
+    ] {
+        let call = ReplaceCall {
+            record: marked(record),
+            at: Address::new(a, v, s),
+            new: new.as_bytes().to_vec(),
+            output_length: 100,
+        };
+        let mut buffers = Buffers::default();
+        let outcome = call.run(implementation, &mut buffers);
+        assert_eq!(outcome.refusal, 0, "{record}");
+        let answer = &buffers.output.after()[..outcome.length as usize];
+        assert_eq!(answer, marked(result), "{record}");
+    }
+}
+
+/// Code strings and their counts.
+fn checking(implementation: &Implementation) {
+    let sixteen = format!("F{}", ";'1'".repeat(16));
+    let seventeen = format!("F{}", ";'1'".repeat(17));
+    for (code, refusal, code_number, loads, others) in [
+        ("", 0, 0, 0, 0),
+        ("F;1;2R;*", 0, 0, 2, 1),
+        ("F;0;LPV;:]MCU", 0, 0, 1, 3),
+        ("]", 6, 1, 0, 0),
+        ("L]F;1;+", 7, 2, 0, 0),
+        ("L]F;1;+;ZZ]?", 6, 2, 0, 0),
+        (&sixteen, 0, 0, 0, 16),
+        (&seventeen, 7, 1, 0, 0),
+        (&"x".repeat(512), 6, 1, 0, 0),
+        (&"x".repeat(513), 5, 0, 0, 0),
+    ] {
+        let expected = Check {
+            refusal,
+            code_number,
+            loads,
+            others,
+        };
+        assert_eq!((implementation.check)(&marked(code)), expected, "{code}");
+    }
+}
+
+/// Typed dates.
+fn typed_dates(implementation: &Implementation) {
+    for (code, text, refusal, day) in [
+        ("D", "31 DEC 1967", 0, 0),
+        ("D2", "30 dec 1967", 0, -1),
+        ("D4/", "1/1/68", 0, 1),
+        ("D/", "2/29/00", 0, 11_748),
+        ("D", "1 JAN 0001", 0, -718_430),
+        ("D", "31 Dec 9999", 0, 2_933_628),
+        ("D", "1 JAN 29", 0, 22_282),
+        ("D", "1 JAN 30", 0, -13_878),
+        ("D", "29 FEB 1967", 12, 0),
+        ("D", "1 JAN 0000", 12, 0),
+        ("D", "1 JAN 967", 12, 0),
+        ("D", "1/1/1967", 12, 0),
+        ("D", "", 12, 0),
+        ("D0", "1 JAN 1967", 12, 0),
+        ("L", "1 JAN 1967", 6, 0),
+        ("D]D", "1 JAN 1967", 6, 0),
+        ("", "1 JAN 1967", 6, 0),
+        (&"D".repeat(513), "1 JAN 1967", 5, 0),
+    ] {
+        let expected = TypedDate {
+            refusal,
+            ..TypedDate::of_day(day)
+        };
+        let outcome = (implementation.typed_date)(&marked(code), text.as_bytes());
+        assert_eq!(outcome, expected, "{code} {text}");
+    }
+}

@@ -1,0 +1,103 @@
+//! Typed dates: in the form of their code, or nearly.
+
+use super::super::calls::DateCall;
+use super::{codes, elements, Rng};
+
+const MONTHS: [&str; 13] = [
+    "JAN", "FEB", "MAR", "APR", "MAY", "JUN", "JUL", "AUG", "SEP", "OCT", "NOV", "DEC", "XYZ",
+];
+
+/// A call with a date that mostly suits its code.
+pub fn call(rng: &mut Rng) -> DateCall {
+    let mut code = match rng.below(40) {
+        0 => codes::string(rng).0,
+        1 => b"D4/"
+            .iter()
+            .copied()
+            .cycle()
+            .take(rng.between(511, 515) as usize)
+            .collect(),
+        _ => codes::date_code(rng),
+    };
+    let separator = code
+        .iter()
+        .skip(1)
+        .copied()
+        .find(|byte| !byte.is_ascii_digit());
+    let mut text = match rng.below(200) {
+        0 => elements::of_length(rng, &[100, 1_025, 70_000]),
+        _ => text(rng, separator).into_bytes(),
+    };
+    if rng.one_in(8) {
+        rng.damage(&mut text, |rng| *rng.pick(b"0123456789 /-.JANfeb\x00\xfe"));
+    }
+    if rng.one_in(60) {
+        rng.damage(&mut code, |rng| *rng.pick(b"D012345/ F;()\xfd\xfb"));
+    }
+    DateCall { code, text }
+}
+
+/// A date as somebody types it, for a code with this separator.
+fn text(rng: &mut Rng, separator: Option<u8>) -> String {
+    if rng.one_in(80) {
+        return String::new();
+    }
+    let year = year(rng);
+    let months = if rng.one_in(30) { 13 } else { 12 };
+    let month = rng.below(months);
+    let day = match rng.below(8) {
+        0 => *rng.pick(&[0, 1, 28, 29, 30, 31, 32, 99]),
+        1 => *rng.pick(&[28, 29, 30, 31]),
+        _ => rng.between(1, 28),
+    };
+    let day = digits(rng, day);
+    let separator = match separator {
+        None if rng.one_in(40) => Some(b'/'),
+        Some(_) if rng.one_in(40) => None,
+        separator => separator,
+    };
+    match separator {
+        None => format!("{day} {} {year}", letters(rng, MONTHS[month as usize])),
+        Some(byte) if byte.is_ascii() => {
+            let (month, byte) = (digits(rng, month + 1), byte as char);
+            format!("{month}{byte}{day}{byte}{year}")
+        }
+        Some(_) => format!("1/{day}/{year}"),
+    }
+}
+
+/// One or two digits.
+fn digits(rng: &mut Rng, number: u64) -> String {
+    match rng.below(20) {
+        0 => format!("{number:03}"),
+        1..=9 => format!("{number:02}"),
+        _ => number.to_string(),
+    }
+}
+
+/// Letters in any case.
+fn letters(rng: &mut Rng, name: &str) -> String {
+    let mixed = |rng: &mut Rng, letter: char| match rng.one_in(2) {
+        true => letter.to_ascii_lowercase(),
+        false => letter,
+    };
+    match rng.below(3) {
+        0 => name.to_owned(),
+        1 => name.to_ascii_lowercase(),
+        _ => name.chars().map(|letter| mixed(rng, letter)).collect(),
+    }
+}
+
+/// A year of two or four digits, or of another number.
+fn year(rng: &mut Rng) -> String {
+    const NEAR: [&str; 18] = [
+        "0000", "0001", "0004", "0100", "0400", "1600", "1700", "1900", "1967", "1968", "2000",
+        "2100", "9999", "29", "30", "00", "99", "68",
+    ];
+    match rng.below(10) {
+        0 => rng.below(100_000).to_string(),
+        1..=3 => rng.pick(&NEAR).to_string(),
+        4..=6 => format!("{:02}", rng.below(100)),
+        _ => format!("{:04}", rng.below(10_000)),
+    }
+}

@@ -1,0 +1,152 @@
+//! What document 01 promises of every call, whoever carries it out.
+
+use std::fmt::Display;
+
+use sundewfrill_host::outcome::{Address, Convert, Find, Implementation, Replace};
+use sundewfrill_host::paper;
+
+use super::buffers::{all_zero, Buffers};
+use super::calls::{ConvertCall, FindCall, ReplaceCall};
+
+/// Fails with the call that broke a law.
+fn law(holds: bool, name: &str, call: &impl Display, outcome: &impl std::fmt::Debug) {
+    assert!(holds, "{name}: {outcome:?}\n{call}");
+}
+
+/// A refusal and a missing place give no part; a part lies in the record.
+pub fn find(call: &FindCall, outcome: &Find) {
+    let nothing = (outcome.found, outcome.start, outcome.length) == (0, 0, 0);
+    let end = outcome.start.checked_add(outcome.length);
+    let inside = end.is_some_and(|end| end <= call.record.len() as u64);
+    let found = outcome.refusal == 0 && outcome.found == 1 && inside;
+    law(nothing || found, "finding", call, outcome);
+}
+
+/// The output holds the answer and then zeros; zeros throughout on a refusal.
+pub fn replace(call: &ReplaceCall, outcome: &Replace, buffers: &Buffers) {
+    let behind = buffers.output.after().get(outcome.length as usize..);
+    let clear = behind.is_some_and(all_zero);
+    let settled = clear && (outcome.refusal == 0 || outcome.length == 0);
+    law(settled, "the output after replacing", call, outcome);
+}
+
+/// After replacing, the place holds the new bytes, and `other`, if it is apart
+/// from the place, reads as before, missing counted as empty.
+pub fn replace_reads_back(
+    call: &ReplaceCall,
+    outcome: &Replace,
+    other: Address,
+    implementation: &Implementation,
+    buffers: &Buffers,
+) {
+    if outcome.refusal != 0 {
+        return;
+    }
+    let after = &buffers.output.after()[..outcome.length as usize];
+    let there = (implementation.find)(after, call.at);
+    let new = there.found == 1 && part(after, &there) == call.new;
+    law(new, "the replaced place", call, outcome);
+    let before = (implementation.find)(&call.record, other);
+    if before.refusal == 0 && apart(call.at, other) {
+        let now = (implementation.find)(after, other);
+        let same = now.refusal == 0 && part(after, &now) == part(&call.record, &before);
+        law(
+            same,
+            &format!("{other:?}, apart from the replaced place"),
+            call,
+            outcome,
+        );
+    }
+}
+
+fn part<'r>(record: &'r [u8], found: &Find) -> &'r [u8] {
+    &record[found.start as usize..(found.start + found.length) as usize]
+}
+
+/// Whether neither address contains the other.
+fn apart(one: Address, other: Address) -> bool {
+    !contains(one, other) && !contains(other, one)
+}
+
+fn contains(one: Address, other: Address) -> bool {
+    one.a == other.a && (one.v == 0 || one.v == other.v && (one.s == 0 || one.s == other.s))
+}
+
+/// The output holds the answer and then zeros, scratch holds zeros, a refusal
+/// gives no answer, and the steps are within the budget.
+pub fn convert(call: &ConvertCall, budget: u64, outcome: &Convert, buffers: &Buffers) {
+    let behind = buffers.output.after().get(outcome.length as usize..);
+    let clear = behind.is_some_and(all_zero) && all_zero(buffers.scratch.after());
+    let settled = clear && (outcome.refusal == 0 || outcome.length == 0);
+    law(
+        settled,
+        "output and scratch after converting",
+        call,
+        outcome,
+    );
+    law(
+        outcome.steps <= budget,
+        "steps within the budget",
+        call,
+        outcome,
+    );
+    let never_began = (1..=8).contains(&outcome.refusal);
+    law(
+        !never_began || outcome.steps == 0,
+        "no steps before the run",
+        call,
+        outcome,
+    );
+}
+
+/// A run that came to its end cost no more than its ceiling.
+pub fn ceiling(call: &ConvertCall, outcome: &Convert, implementation: &Implementation) {
+    if !came_to_end(outcome) {
+        return;
+    }
+    let counts = (implementation.check)(&call.code);
+    let elements = paper::element_count(&call.record, call.at).expect("the call was accepted");
+    let length = call.record.len() as u64;
+    let ceiling = paper::ceiling(elements, counts.loads, counts.others, length);
+    law(
+        outcome.steps <= ceiling,
+        &format!("the ceiling {ceiling}"),
+        call,
+        outcome,
+    );
+}
+
+/// Whether all steps were completed: nothing was refused, or only the output
+/// was too short at the end.
+pub fn came_to_end(outcome: &Convert) -> bool {
+    matches!(outcome.refusal, 0 | 16)
+}
+
+/// The budgets to try a completed run with again, and what must come of each:
+/// at the count the same outcome, one below it refusal 15.
+pub fn budgets(outcome: &Convert) -> Vec<(u64, bool)> {
+    let mut budgets = Vec::new();
+    if came_to_end(outcome) {
+        budgets.push((outcome.steps, true));
+        budgets.extend(outcome.steps.checked_sub(1).map(|below| (below, false)));
+    }
+    budgets
+}
+
+/// What a run with another budget must have given: `first` and `answer` are the
+/// outcome and the output of the completed run.
+pub fn budget(
+    call: &ConvertCall,
+    (budget, enough): (u64, bool),
+    (first, answer): (&Convert, &[u8]),
+    outcome: &Convert,
+    buffers: &Buffers,
+) {
+    convert(call, budget, outcome, buffers);
+    let right = if enough {
+        outcome == first && buffers.output.after() == answer
+    } else {
+        outcome.refusal == 15
+    };
+    law(right, &format!("the budget {budget}"), call, outcome);
+}

@@ -1,0 +1,11 @@
+//! What the tests share. Each test file uses a part of it.
+#![allow(dead_code)]
+
+pub mod buffers;
+pub mod calls;
+pub mod coverage;
+pub mod examples;
+pub mod generator;
+pub mod laws;
+pub mod progress;
+pub mod vectors;

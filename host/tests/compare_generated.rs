@@ -1,0 +1,210 @@
+//! The proved library against the independent implementation on generated
+//! calls: refusals, counts, and every byte of output and scratch, on dirty
+//! buffers of many lengths.
+//!
+//! Needs the archive. A usual run has 1,000,000 calls with a fixed seed; each
+//! completed conversion is run again at its count and one below it. A longer
+//! run: `SUNDEWFRILL_CASES=20_000_000`; another one: `SUNDEWFRILL_SEED=7`.
+//! Progress is shown every few seconds. The calendar is gone through day by day.
+
+mod common;
+
+use std::fmt::{Debug, Display};
+
+use common::buffers::Buffers;
+use common::calls::{ConvertCall, DateCall, PAPER, PROVED};
+use common::coverage::{Coverage, CONVERT_LIMITS, REPLACE_LIMITS, STEPS};
+use common::generator::{self, Rng};
+use common::laws;
+use common::progress::{is_short, seed, share, Progress, USUAL_CASES};
+use sundewfrill_host::outcome::{Address, Convert};
+use sundewfrill_host::{paper, SCRATCH_LENGTH};
+
+/// Runs a share of the cases and gives what they covered.
+fn cases(
+    name: &'static str,
+    call: u64,
+    percent: u64,
+    mut case: impl FnMut(&mut Rng, &mut Coverage),
+) -> Coverage {
+    let (seed, total) = (seed(), share(USUAL_CASES, percent));
+    let mut progress = Progress::new(name, total);
+    let mut coverage = Coverage::new(is_short(USUAL_CASES));
+    for number in 0..total {
+        case(&mut Rng::of_case(seed, call, number), &mut coverage);
+        progress.step(number);
+    }
+    progress.finish(&coverage.summary());
+    coverage
+}
+
+/// Fails, with the call as the batch program reads it, unless both outcomes are
+/// the same.
+fn same<T: PartialEq + Debug>(paper: &T, proved: &T, what: &str, call: &impl Display) {
+    assert!(
+        paper == proved,
+        "{what} differs\n{call}\nindependent: {paper:?}\nproved:      {proved:?}"
+    );
+}
+
+/// Fails, with the first place, unless both buffers hold the same bytes.
+fn same_bytes(paper: &[u8], proved: &[u8], what: &str, call: &impl Display) {
+    if paper == proved {
+        return;
+    }
+    let place = paper
+        .iter()
+        .zip(proved)
+        .position(|(one, other)| one != other);
+    panic!(
+        "{what} differs from byte {place:?} on\n{call}\nindependent: {:?}\nproved:      {:?}",
+        place.map(|place| paper[place]),
+        place.map(|place| proved[place])
+    );
+}
+
+/// Buffers for either side.
+#[derive(Default)]
+struct Both {
+    paper: Buffers,
+    proved: Buffers,
+}
+
+impl Both {
+    /// Fails unless output and scratch are the same on both sides.
+    fn same(&self, call: &impl Display) {
+        let outputs = (self.paper.output.after(), self.proved.output.after());
+        same_bytes(outputs.0, outputs.1, "the output", call);
+        let scratches = (self.paper.scratch.after(), self.proved.scratch.after());
+        same_bytes(scratches.0, scratches.1, "the scratch", call);
+    }
+
+    /// Converts on both sides within `budget`, compares everything, and gives
+    /// the outcome.
+    fn convert(&mut self, call: &ConvertCall, budget: u64) -> Convert {
+        let paper = call.run_within(budget, &PAPER, &mut self.paper);
+        let proved = call.run_within(budget, &PROVED, &mut self.proved);
+        let what = format!("converting within {budget}");
+        same(&paper, &proved, &what, call);
+        self.same(call);
+        proved
+    }
+}
+
+#[test]
+fn find() {
+    let coverage = cases("find", 1, 10, |rng, coverage| {
+        let call = generator::find(rng);
+        let (paper, proved) = (call.run(&PAPER), call.run(&PROVED));
+        same(&paper, &proved, "finding", &call);
+        laws::find(&call, &proved);
+        coverage.refusal(proved.refusal);
+    });
+    coverage.require("find", &[1, 2, 3, 4], &[]);
+}
+
+#[test]
+fn replace() {
+    let mut both = Both::default();
+    let coverage = cases("replace", 2, 15, |rng, coverage| {
+        let call = generator::replace(rng, &mut both.paper);
+        let paper = call.run(&PAPER, &mut both.paper);
+        let proved = call.run(&PROVED, &mut both.proved);
+        same(&paper, &proved, "replacing", &call);
+        let outputs = (both.paper.output.after(), both.proved.output.after());
+        same_bytes(outputs.0, outputs.1, "the output", &call);
+        laws::replace(&call, &proved, &both.proved);
+        coverage.replace(&call, &proved);
+    });
+    coverage.require("replace", &[1, 2, 3, 4, 9, 16, 17], &[&REPLACE_LIMITS]);
+}
+
+#[test]
+fn check() {
+    let coverage = cases("check", 3, 20, |rng, coverage| {
+        let call = generator::check(rng);
+        let (paper, proved) = (call.run(&PAPER), call.run(&PROVED));
+        same(&paper, &proved, "checking", &call);
+        coverage.refusal(proved.refusal);
+        if proved.refusal == 0 {
+            coverage.string(&call.code);
+        }
+    });
+    coverage.require("check", &[5, 6, 7], &STEPS);
+}
+
+#[test]
+fn convert() {
+    let mut both = Both::default();
+    let coverage = cases("convert", 4, 45, |rng, coverage| {
+        let call = generator::convert(rng, &mut both.paper);
+        let outcome = both.convert(&call, call.budget);
+        laws::convert(&call, call.budget, &outcome, &both.proved);
+        laws::ceiling(&call, &outcome, &PROVED);
+        let answer = both.proved.output.after().to_vec();
+        for budget in laws::budgets(&outcome) {
+            let again = both.convert(&call, budget.0);
+            laws::budget(&call, budget, (&outcome, &answer), &again, &both.proved);
+        }
+        coverage.convert(&call, &outcome);
+    });
+    let refusals: Vec<u64> = (1..=16).collect();
+    let tags = [STEPS.concat(), CONVERT_LIMITS.to_vec()];
+    let tags: Vec<&[&str]> = tags.iter().map(Vec::as_slice).collect();
+    coverage.require("convert", &refusals, &tags);
+}
+
+#[test]
+fn date() {
+    let coverage = cases("date", 5, 10, |rng, coverage| {
+        let call = generator::date(rng);
+        let (paper, proved) = (call.run(&PAPER), call.run(&PROVED));
+        same(&paper, &proved, "reading a typed date", &call);
+        coverage.refusal(proved.refusal);
+    });
+    coverage.require("date", &[5, 6, 12], &[]);
+}
+
+/// Every day of the calendar, printed in either form, and read again.
+#[test]
+fn calendar() {
+    const DAYS_AT_ONCE: usize = 2_000;
+    let days: Vec<i64> = (-718_430..=2_933_628).collect();
+    let mut both = Both::default();
+    let mut progress = Progress::new("calendar", days.len() as u64);
+    for (chunk, number) in days.chunks(DAYS_AT_ONCE).zip(0..) {
+        printed(&mut both, chunk, b"D");
+        let answer = printed(&mut both, chunk, b"D4/");
+        let dates = answer.split(|&byte| byte == paper::VALUE_MARK);
+        for (text, &day) in dates.zip(chunk) {
+            let call = DateCall {
+                code: b"D4/".to_vec(),
+                text: text.to_vec(),
+            };
+            let (paper, proved) = (call.run(&PAPER), call.run(&PROVED));
+            same(&paper, &proved, "reading a typed date", &call);
+            assert_eq!((proved.refusal, proved.day()), (0, day), "{call}");
+        }
+        progress.step(number * DAYS_AT_ONCE as u64);
+    }
+    progress.finish("every day there and back");
+}
+
+/// The dates of these days, the same on both sides.
+fn printed(both: &mut Both, days: &[i64], code: &[u8]) -> Vec<u8> {
+    let values: Vec<Vec<u8>> = days
+        .iter()
+        .map(|day| day.to_string().into_bytes())
+        .collect();
+    let call = ConvertCall {
+        record: [b"K1\xfe".to_vec(), values.join(&paper::VALUE_MARK)].concat(),
+        code: code.to_vec(),
+        at: Address::new(1, 0, 0),
+        budget: u64::MAX,
+        output_length: paper::RECORD_LENGTH,
+        scratch_length: SCRATCH_LENGTH,
+    };
+    let outcome = both.convert(&call, call.budget);
+    assert_eq!(outcome.refusal, 0, "{call}");
+    both.proved.output.after()[..outcome.length as usize].to_vec()
+}

@@ -1,0 +1,116 @@
+//! The independent implementation by itself: the examples of document 01, and
+//! on generated calls what the paper promises of every call. These also show
+//! that the generator reaches everything.
+//!
+//! Needs no archive: runs on any processor. `SUNDEWFRILL_CASES` sets the number
+//! of calls, `SUNDEWFRILL_SEED` the seed.
+
+mod common;
+
+use common::buffers::Buffers;
+use common::calls::PAPER;
+use common::coverage::{Coverage, CONVERT_LIMITS, REPLACE_LIMITS, STEPS};
+use common::generator::{self, Rng};
+use common::progress::{is_short, seed, share, Progress};
+use common::{examples, laws};
+use sundewfrill_host::outcome::Address;
+
+/// How many calls a usual run has in all.
+const CASES: u64 = 300_000;
+
+/// Runs a share of the cases and gives what they covered.
+fn cases(
+    name: &'static str,
+    call: u64,
+    percent: u64,
+    mut case: impl FnMut(&mut Rng, &mut Coverage),
+) -> Coverage {
+    let (seed, total) = (seed(), share(CASES, percent));
+    let mut progress = Progress::new(name, total);
+    let mut coverage = Coverage::new(is_short(CASES));
+    for number in 0..total {
+        case(&mut Rng::of_case(seed, call, number), &mut coverage);
+        progress.step(number);
+    }
+    progress.finish(&coverage.summary());
+    coverage
+}
+
+#[test]
+fn examples() {
+    examples::run(&PAPER);
+}
+
+#[test]
+fn find() {
+    let coverage = cases("find", 1, 10, |rng, coverage| {
+        let call = generator::find(rng);
+        let outcome = call.run(&PAPER);
+        laws::find(&call, &outcome);
+        coverage.refusal(outcome.refusal);
+    });
+    coverage.require("find", &[1, 2, 3, 4], &[]);
+}
+
+#[test]
+fn replace() {
+    let mut buffers = Buffers::default();
+    let coverage = cases("replace", 2, 20, |rng, coverage| {
+        let call = generator::replace(rng, &mut buffers);
+        let outcome = call.run(&PAPER, &mut buffers);
+        laws::replace(&call, &outcome, &buffers);
+        let near =
+            |number: u64, rng: &mut Rng| number.saturating_add(2).saturating_sub(rng.below(4));
+        let other = Address::new(
+            near(call.at.a, rng),
+            near(call.at.v, rng),
+            near(call.at.s, rng),
+        );
+        laws::replace_reads_back(&call, &outcome, other, &PAPER, &buffers);
+        coverage.replace(&call, &outcome);
+    });
+    coverage.require("replace", &[1, 2, 3, 4, 9, 16, 17], &[&REPLACE_LIMITS]);
+}
+
+#[test]
+fn check() {
+    let coverage = cases("check", 3, 20, |rng, coverage| {
+        let call = generator::check(rng);
+        let outcome = call.run(&PAPER);
+        coverage.refusal(outcome.refusal);
+        if outcome.refusal == 0 {
+            coverage.string(&call.code);
+        }
+    });
+    coverage.require("check", &[5, 6, 7], &STEPS);
+}
+
+#[test]
+fn convert() {
+    let mut buffers = Buffers::default();
+    let coverage = cases("convert", 4, 40, |rng, coverage| {
+        let call = generator::convert(rng, &mut buffers);
+        let outcome = call.run(&PAPER, &mut buffers);
+        laws::convert(&call, call.budget, &outcome, &buffers);
+        laws::ceiling(&call, &outcome, &PAPER);
+        let answer = buffers.output.after().to_vec();
+        for budget in laws::budgets(&outcome) {
+            let again = call.run_within(budget.0, &PAPER, &mut buffers);
+            laws::budget(&call, budget, (&outcome, &answer), &again, &buffers);
+        }
+        coverage.convert(&call, &outcome);
+    });
+    let refusals: Vec<u64> = (1..=16).collect();
+    let tags = [STEPS.concat(), CONVERT_LIMITS.to_vec()];
+    let tags: Vec<&[&str]> = tags.iter().map(Vec::as_slice).collect();
+    coverage.require("convert", &refusals, &tags);
+}
+
+#[test]
+fn date() {
+    let coverage = cases("date", 5, 10, |rng, coverage| {
+        let outcome = generator::date(rng).run(&PAPER);
+        coverage.refusal(outcome.refusal);
+    });
+    coverage.require("date", &[5, 6, 12], &[]);
+}

@@ -1,0 +1,94 @@
+//! The safe calls: what they make of the proved library's numbers.
+//!
+//! Needs the archive.
+
+use sundewfrill_host::{
+    check, convert, find, replace, typed_date, Address, BadCode, Converted, Refusal, StepCounts,
+    Stopped, SCRATCH_LENGTH,
+};
+
+const RECORD: &[u8] = b"K1\xfe10\xfd20\xfe3";
+
+#[test]
+fn finding() {
+    let part = find(RECORD, Address::new(1, 2, 0)).unwrap().unwrap();
+    assert_eq!((part.bytes, part.range), (b"20".as_slice(), 6..8));
+    let whole = find(RECORD, Address::new(1, 0, 0)).unwrap().unwrap();
+    assert_eq!(whole.bytes, b"10\xfd20");
+    let empty = find(b"K1\xfe", Address::new(1, 1, 1)).unwrap().unwrap();
+    assert_eq!((empty.bytes, empty.range), (b"".as_slice(), 3..3));
+    assert_eq!(find(RECORD, Address::new(1, 3, 0)), Ok(None));
+    assert_eq!(
+        find(RECORD, Address::new(1, 0, 1)),
+        Err(Refusal::BadAddress)
+    );
+    assert_eq!(
+        find(b"\xff", Address::new(0, 0, 0)),
+        Err(Refusal::ByteNotForRecords)
+    );
+}
+
+#[test]
+fn replacing() {
+    let mut output = [7; 12];
+    let made = replace(b"K1\xfeA", b"X", Address::new(3, 2, 1), &mut output);
+    assert_eq!(made, Ok(b"K1\xfeA\xfe\xfe\xfdX".as_slice()));
+    assert_eq!(output, *b"K1\xfeA\xfe\xfe\xfdX\0\0\0\0");
+    let short = replace(RECORD, b"four", Address::new(4, 0, 0), &mut output);
+    assert_eq!(short, Err(Refusal::OutputTooShort));
+    assert_eq!(output, [0; 12]);
+}
+
+#[test]
+fn checking() {
+    let counts = StepCounts {
+        loads: 2,
+        others: 1,
+    };
+    assert_eq!(check(b"F;1;2R;*"), Ok(counts));
+    let bad = BadCode {
+        refusal: Refusal::StackMisused,
+        code_number: 2,
+    };
+    assert_eq!(check(b"L\xfdF;1;+"), Err(bad));
+    assert!(bad.to_string().starts_with("code 2: refusal 7: An F code"));
+    let long = check(&[b'L'; 513]).unwrap_err();
+    assert_eq!((long.refusal, long.code_number), (Refusal::CodeTooLong, 0));
+    assert!(long.to_string().starts_with("refusal 5: The code string"));
+}
+
+#[test]
+fn converting() {
+    let at = Address::new(1, 0, 0);
+    let mut output = [7; 8];
+    let mut scratch = [7; SCRATCH_LENGTH];
+    let whole = convert(RECORD, b"F;1;2R;*", at, 62, &mut output, &mut scratch);
+    let expected = Converted {
+        answer: b"30\xfd60",
+        steps: 62,
+    };
+    assert_eq!(whole, Ok(expected));
+    assert_eq!(output, *b"30\xfd60\0\0\0");
+    let stopped = convert(RECORD, b"F;1;2R;*", at, 61, &mut output, &mut scratch).unwrap_err();
+    let expected = Stopped {
+        refusal: Refusal::OverBudget,
+        steps: 56,
+    };
+    assert_eq!(stopped, expected);
+    assert!(stopped
+        .to_string()
+        .starts_with("after 56 steps: refusal 15: The budget"));
+    assert_eq!(output, [0; 8]);
+    assert!(scratch.iter().all(|&byte| byte == 0));
+}
+
+#[test]
+fn typed_dates() {
+    assert_eq!(typed_date(b"D", b"31 dec 1967"), Ok(0));
+    assert_eq!(typed_date(b"D2/", b"12/30/67"), Ok(-1));
+    assert_eq!(
+        typed_date(b"D", b"29 FEB 1967"),
+        Err(Refusal::NotConvertible)
+    );
+    assert_eq!(typed_date(b"L", b"1 JAN 1967"), Err(Refusal::NotInGrammar));
+}
