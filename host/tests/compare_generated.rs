@@ -13,30 +13,13 @@ use std::fmt::{Debug, Display};
 
 use common::buffers::Buffers;
 use common::calls::{ConvertCall, DateCall, PAPER, PROVED};
-use common::coverage::{Coverage, CONVERT_LIMITS, REPLACE_LIMITS, STEPS};
-use common::generator::{self, Rng};
+use common::cases::cases;
+use common::coverage::{REPLACE_LIMITS, STEPS};
+use common::generator;
 use common::laws;
-use common::progress::{is_short, seed, share, Progress, USUAL_CASES};
+use common::progress::{Progress, USUAL_CASES};
 use sundewfrill_host::outcome::{Address, Convert};
 use sundewfrill_host::{paper, SCRATCH_LENGTH};
-
-/// Runs a share of the cases and gives what they covered.
-fn cases(
-    name: &'static str,
-    call: u64,
-    percent: u64,
-    mut case: impl FnMut(&mut Rng, &mut Coverage),
-) -> Coverage {
-    let (seed, total) = (seed(), share(USUAL_CASES, percent));
-    let mut progress = Progress::new(name, total);
-    let mut coverage = Coverage::new(is_short(USUAL_CASES));
-    for number in 0..total {
-        case(&mut Rng::of_case(seed, call, number), &mut coverage);
-        progress.step(number);
-    }
-    progress.finish(&coverage.summary());
-    coverage
-}
 
 /// Fails, with the call as the batch program reads it, unless both outcomes are
 /// the same.
@@ -93,7 +76,7 @@ impl Both {
 
 #[test]
 fn find() {
-    let coverage = cases("find", 1, 10, |rng, coverage| {
+    let coverage = cases(USUAL_CASES, "find", 1, 10, |rng, coverage| {
         let call = generator::find(rng);
         let (paper, proved) = (call.run(&PAPER), call.run(&PROVED));
         same(&paper, &proved, "finding", &call);
@@ -106,7 +89,7 @@ fn find() {
 #[test]
 fn replace() {
     let mut both = Both::default();
-    let coverage = cases("replace", 2, 15, |rng, coverage| {
+    let coverage = cases(USUAL_CASES, "replace", 2, 15, |rng, coverage| {
         let call = generator::replace(rng, &mut both.paper);
         let paper = call.run(&PAPER, &mut both.paper);
         let proved = call.run(&PROVED, &mut both.proved);
@@ -121,7 +104,7 @@ fn replace() {
 
 #[test]
 fn check() {
-    let coverage = cases("check", 3, 20, |rng, coverage| {
+    let coverage = cases(USUAL_CASES, "check", 3, 20, |rng, coverage| {
         let call = generator::check(rng);
         let (paper, proved) = (call.run(&PAPER), call.run(&PROVED));
         same(&paper, &proved, "checking", &call);
@@ -136,7 +119,7 @@ fn check() {
 #[test]
 fn convert() {
     let mut both = Both::default();
-    let coverage = cases("convert", 4, 45, |rng, coverage| {
+    let coverage = cases(USUAL_CASES, "convert", 4, 45, |rng, coverage| {
         let call = generator::convert(rng, &mut both.paper);
         let outcome = both.convert(&call, call.budget);
         laws::convert(&call, call.budget, &outcome, &both.proved);
@@ -148,15 +131,12 @@ fn convert() {
         }
         coverage.convert(&call, &outcome);
     });
-    let refusals: Vec<u64> = (1..=16).collect();
-    let tags = [STEPS.concat(), CONVERT_LIMITS.to_vec()];
-    let tags: Vec<&[&str]> = tags.iter().map(Vec::as_slice).collect();
-    coverage.require("convert", &refusals, &tags);
+    coverage.require_of_convert();
 }
 
 #[test]
 fn date() {
-    let coverage = cases("date", 5, 10, |rng, coverage| {
+    let coverage = cases(USUAL_CASES, "date", 5, 10, |rng, coverage| {
         let call = generator::date(rng);
         let (paper, proved) = (call.run(&PAPER), call.run(&PROVED));
         same(&paper, &proved, "reading a typed date", &call);

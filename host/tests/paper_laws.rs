@@ -9,32 +9,14 @@ mod common;
 
 use common::buffers::Buffers;
 use common::calls::PAPER;
-use common::coverage::{Coverage, CONVERT_LIMITS, REPLACE_LIMITS, STEPS};
+use common::cases::cases;
+use common::coverage::{REPLACE_LIMITS, STEPS};
 use common::generator::{self, Rng};
-use common::progress::{is_short, seed, share, Progress};
 use common::{examples, laws};
 use sundewfrill_host::outcome::Address;
 
 /// How many calls a usual run has in all.
 const CASES: u64 = 300_000;
-
-/// Runs a share of the cases and gives what they covered.
-fn cases(
-    name: &'static str,
-    call: u64,
-    percent: u64,
-    mut case: impl FnMut(&mut Rng, &mut Coverage),
-) -> Coverage {
-    let (seed, total) = (seed(), share(CASES, percent));
-    let mut progress = Progress::new(name, total);
-    let mut coverage = Coverage::new(is_short(CASES));
-    for number in 0..total {
-        case(&mut Rng::of_case(seed, call, number), &mut coverage);
-        progress.step(number);
-    }
-    progress.finish(&coverage.summary());
-    coverage
-}
 
 #[test]
 fn examples() {
@@ -43,7 +25,7 @@ fn examples() {
 
 #[test]
 fn find() {
-    let coverage = cases("find", 1, 10, |rng, coverage| {
+    let coverage = cases(CASES, "find", 1, 10, |rng, coverage| {
         let call = generator::find(rng);
         let outcome = call.run(&PAPER);
         laws::find(&call, &outcome);
@@ -55,7 +37,7 @@ fn find() {
 #[test]
 fn replace() {
     let mut buffers = Buffers::default();
-    let coverage = cases("replace", 2, 20, |rng, coverage| {
+    let coverage = cases(CASES, "replace", 2, 20, |rng, coverage| {
         let call = generator::replace(rng, &mut buffers);
         let outcome = call.run(&PAPER, &mut buffers);
         laws::replace(&call, &outcome, &buffers);
@@ -74,7 +56,7 @@ fn replace() {
 
 #[test]
 fn check() {
-    let coverage = cases("check", 3, 20, |rng, coverage| {
+    let coverage = cases(CASES, "check", 3, 20, |rng, coverage| {
         let call = generator::check(rng);
         let outcome = call.run(&PAPER);
         coverage.refusal(outcome.refusal);
@@ -88,7 +70,7 @@ fn check() {
 #[test]
 fn convert() {
     let mut buffers = Buffers::default();
-    let coverage = cases("convert", 4, 40, |rng, coverage| {
+    let coverage = cases(CASES, "convert", 4, 40, |rng, coverage| {
         let call = generator::convert(rng, &mut buffers);
         let outcome = call.run(&PAPER, &mut buffers);
         laws::convert(&call, call.budget, &outcome, &buffers);
@@ -100,15 +82,12 @@ fn convert() {
         }
         coverage.convert(&call, &outcome);
     });
-    let refusals: Vec<u64> = (1..=16).collect();
-    let tags = [STEPS.concat(), CONVERT_LIMITS.to_vec()];
-    let tags: Vec<&[&str]> = tags.iter().map(Vec::as_slice).collect();
-    coverage.require("convert", &refusals, &tags);
+    coverage.require_of_convert();
 }
 
 #[test]
 fn date() {
-    let coverage = cases("date", 5, 10, |rng, coverage| {
+    let coverage = cases(CASES, "date", 5, 10, |rng, coverage| {
         let outcome = generator::date(rng).run(&PAPER);
         coverage.refusal(outcome.refusal);
     });

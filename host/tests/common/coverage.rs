@@ -78,6 +78,15 @@ impl Coverage {
         assert!(missing.is_empty(), "{call}: not reached: {missing:?}");
     }
 
+    /// The same of converting: refusals 1 to 16, every kind of step, and both
+    /// sides of its limits.
+    pub fn require_of_convert(&self) {
+        let refusals: Vec<u64> = (1..=16).collect();
+        let tags = [STEPS.concat(), CONVERT_LIMITS.to_vec()];
+        let tags: Vec<&[&str]> = tags.iter().map(Vec::as_slice).collect();
+        self.require("convert", &refusals, &tags);
+    }
+
     /// Notes what a replacing has reached.
     pub fn replace(&mut self, call: &ReplaceCall, outcome: &Replace) {
         self.refusal(outcome.refusal);
@@ -315,7 +324,7 @@ const CODES: [&str; 35] = [
 ];
 
 /// The limits that converting has.
-pub const CONVERT_LIMITS: [&str; 13] = [
+const CONVERT_LIMITS: [&str; 13] = [
     "D with s", "missing place", "element of 1,024", "element of 1,025", "MX on 512", "MX on 513",
     "record of 32,768", "record of 32,769", "code string of 512", "code string of 513",
     "budget met exactly", "output met exactly", "answer over 65,536",

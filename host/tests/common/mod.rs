@@ -3,6 +3,7 @@
 
 pub mod buffers;
 pub mod calls;
+pub mod cases;
 pub mod coverage;
 pub mod examples;
 pub mod generator;

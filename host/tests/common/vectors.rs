@@ -180,12 +180,16 @@ pub fn date(implementation: &Implementation) {
 
 /// program.tsv, the program around this implementation's converting.
 pub fn program(implementation: &Implementation) {
-    rows("program.tsv", implementation.name, |row| {
+    program_by(implementation.name, |input| {
+        paper::program_with(input, implementation.convert)
+    });
+}
+
+/// program.tsv, by whatever turns the input into the output.
+pub fn program_by(name: &str, mut program: impl FnMut(&[u8]) -> Vec<u8>) {
+    rows("program.tsv", name, |row| {
         let input = row.bytes();
         let expected = row.bytes();
-        unlike(
-            paper::program_with(&input, implementation.convert),
-            expected,
-        )
+        unlike(program(&input), expected)
     });
 }
