@@ -3,14 +3,21 @@ use Prim.Native.Nat.{ℕ, _≤_, _<_}
 use mathlib.Core.Path.{_≡_, sym, ap, _∙_}
 use native.Mathlib.Omega.{arith}
 use lib.ListN.{length}
+use mathlib.Core.Logic.{_≢_}
 use Rattle.paper.specs.Bytes.{Bytes}
-use Rattle.paper.specs.Refusals.{over-budget}
+use Rattle.paper.specs.Sizes.{entry-most}
+use Rattle.paper.specs.Refusals.{over-budget, stack-fault}
 use Rattle.paper.specs.Checking.{check, report}
 use Rattle.paper.specs.Converting.{Outcome, elements, convert, convert-freely, output-after, ceiling}
+use Rattle.paper.proofs.Predicates.{All}
 use Rattle.paper.proofs.Budget.{converting-within-budget, converting-over-budget}
 use Rattle.paper.proofs.Ceiling.{steps-within-ceiling}
+use Rattle.paper.proofs.Stack.{SafeCode, checked-codes-are-safe}
+use Rattle.paper.proofs.Numbered.{no-stack-fault as converting-has-no-stack-fault}
 use Rattle.convert.specs.Gather.{converted-of}
+use Rattle.convert.specs.Running.{codes-in}
 use Rattle.convert.specs.declared.Converted.{Converted}
+use Rattle.convert.proofs.Accepting.{accepts}
 
 module _ (item string : Bytes) (a v s budget room scratch : ℕ) (r : Converted)
     (answers : r ≡ converted-of (convert item string a v s budget room scratch)) where
@@ -31,3 +38,14 @@ module _ (item string : Bytes) (a v s budget room scratch : ℕ) (r : Converted)
       ≤ ceiling (report (check string) .loads) (report (check string) .others) (length item) (length (elements item a v s))
   unfolding converted-of
   steps-at-most-ceiling = rw answers (steps-within-ceiling item string a v s budget room scratch)
+
+  -- the stack after an accepted check: each elm of the codes that run finds the entries it takes and leaves at most 16
+  pub accepted-runs-safely : report (check string) .refusal ≡ 0 → All (SafeCode entry-most) (codes-in string)
+  accepted-runs-safely e = checked-codes-are-safe entry-most string (codes-in string) (accepts string e)
+
+  -- so the call never answers 7
+  pub no-stack-fault : report (check string) .refusal ≡ 0 → r .number ≢ stack-fault
+  unfolding converted-of
+  no-stack-fault e f =
+      converting-has-no-stack-fault item string a v s budget room scratch (codes-in string) (accepts string e)
+      (sym (ap (λ (x : Converted). x .number) answers) ∙ f)

@@ -1,3 +1,4 @@
+pub mod Accepting
 pub mod Answering
 pub mod Demands
 pub mod Elements
