@@ -2,6 +2,7 @@
 // `convert` takes any record, code string, address, budget and buffers; it is the definition of crates/paper, byte for byte.
 // The elements are walked once from left to right, and each answer goes straight to the lent output.
 use grammar::Verdict;
+use machine::Plan;
 use machine::Ran;
 use machine::slots;
 use paper::Limit;
@@ -11,6 +12,7 @@ ghost use mathlib.Core.Path.{_≡_};
 ghost use Prim.Native.Nat.{_+_, _^_, _≤_, _<_};
 ghost use lib.ListN.{length};
 ghost use Rattle.machine.specs.Slots.{Lent};
+ghost use Rattle.machine.specs.Plans.{plan-of};
 ghost use Rattle.machine.specs.Runs.{Runs};
 ghost use Rattle.convert.specs.Running.{codes-in, Accepts, element-outcome, elements-outcome, passed, Adds, Walks};
 ghost use Rattle.paper.specs.Sizes.{record-most, position-most, scratch-least};
@@ -83,6 +85,7 @@ fn finish(walked: Walked, out: &mut [u8]) -> Converted
 fn element<'a>(
     item: &'a [u8],
     code: &'a [u8],
+    plan: Plan,
     text: &[u8],
     v: u64,
     s: u64,
@@ -92,7 +95,7 @@ fn element<'a>(
     lens: &mut [usize],
     work: &mut [u8],
 ) -> Ran
-    requires { ⌜ Lent (now item) (now scratch) (now lens) (now work) × Accepts (now code) × (steps ≤ budget) ⌝ }
+    requires { ⌜ Lent (now item) (now scratch) (now lens) (now work) × Accepts (now code) × (steps ≤ budget) × (plan ≡ plan-of (now code)) ⌝ }
     ensures { λ r. ⌜ Runs (element-outcome (now (item .entry)) (now (code .entry)) v s budget steps (now (text .entry))) r (now (scratch .exit)) (now (lens .exit)) ⌝ }
 {
     if Limit::ENTRY < text.len() {
@@ -102,13 +105,14 @@ fn element<'a>(
         };
     }
     slots::put(text, scratch, lens, slots::ELEMENT);
-    machine::running::run_codes(item, code, v, s, budget, steps, scratch, lens, work)
+    machine::running::run_codes(item, code, plan, v, s, budget, steps, scratch, lens, work)
 }
 
 // The same, its answer gathered in the output.
 fn add<'a>(
     item: &'a [u8],
     code: &'a [u8],
+    plan: Plan,
     text: &[u8],
     v: u64,
     s: u64,
@@ -120,10 +124,22 @@ fn add<'a>(
     lens: &mut [usize],
     work: &mut [u8],
 ) -> Walked
-    requires { ⌜ Lent (now item) (now scratch) (now lens) (now work) × Accepts (now code) × (steps ≤ budget) × («so_far» < 2 ^ 62) ⌝ }
+    requires { ⌜ Lent (now item) (now scratch) (now lens) (now work) × Accepts (now code) × (steps ≤ budget) × («so_far» < 2 ^ 62) × (plan ≡ plan-of (now code)) ⌝ }
     ensures { λ r. ⌜ Adds (element-outcome (now (item .entry)) (now (code .entry)) v s budget steps (now (text .entry))) «so_far» r (now (out .entry)) (now (out .exit)) (now (scratch .exit)) (now (lens .exit)) ⌝ }
 {
-    match element(item, code, text, v, s, budget, steps, scratch, lens, work) {
+    match element(
+        item,
+        code,
+        plan,
+        text,
+        v,
+        s,
+        budget,
+        steps,
+        scratch,
+        lens,
+        work,
+    ) {
         Ran::Stopped { number, steps } => Walked::Stopped { number, steps },
         Ran::Done { steps } => {
             let answer = slots::entry(&*scratch, &*lens, slots::ELEMENT);
@@ -157,6 +173,7 @@ fn pass(mark: u8, at: Position) -> Position
 fn walk<'a>(
     item: &'a [u8],
     code: &'a [u8],
+    plan: Plan,
     text: &[u8],
     v: u64,
     s: u64,
@@ -166,7 +183,7 @@ fn walk<'a>(
     lens: &mut [usize],
     work: &mut [u8],
 ) -> Walked
-    requires { ⌜ Lent (now item) (now scratch) (now lens) (now work) × Accepts (now code) × (length (now text) ≤ record-most) × (v ≤ position-most) × (s ≤ position-most) ⌝ }
+    requires { ⌜ Lent (now item) (now scratch) (now lens) (now work) × Accepts (now code) × (length (now text) ≤ record-most) × (v ≤ position-most) × (s ≤ position-most) × (plan ≡ plan-of (now code)) ⌝ }
     ensures { λ r. ⌜ Walks (elements-outcome (now (item .entry)) (now (code .entry)) v s budget (now (text .entry))) r (now (out .entry)) (now (out .exit)) ⌝ }
 {
     let mut at = 0;
@@ -178,6 +195,7 @@ fn walk<'a>(
         let added = add(
             item,
             code,
+            plan,
             &text[at..end],
             place.v,
             place.s,
@@ -231,9 +249,11 @@ fn run<'a>(
     let mut lens = [0usize; slots::SLOTS];
     let mut work = [0u8; Limit::ENTRY];
     let text = records::part(item, a, v, s);
+    let plan = machine::running::plan(code);
     walk(
         item,
         code,
+        plan,
         text,
         from_one(v),
         from_one(s),

@@ -70,7 +70,7 @@ accepted-front : (c : Code) (rest : Checked) → Accepted (in-front c rest) → 
 accepted-front c (accepted cs) h = is-accepted
 accepted-front c (faulty n k) h = h
 
-accepted-parts : (number : ℕ) (r : Res Code) (rest : Checked) → Accepted (in-turn number r rest) → Judged-well r × Accepted rest
+pub accepted-parts : (number : ℕ) (r : Res Code) (rest : Checked) → Accepted (in-turn number r rest) → Judged-well r × Accepted rest
 accepted-parts number (given c) rest h = (judged-well, accepted-front c rest h)
 accepted-parts number (refused n) rest h = absurd (not-faulty h refl)
 
@@ -80,7 +80,7 @@ module _ (item : Bytes) (v s : ℕ) where
   unfolding checked-run codes-run
   front-run c rest e is-accepted = refl
 
-  first-run : (number : ℕ) (r : Res Code) (rest : Checked) (e : Bytes) → Accepted (in-turn number r rest)
+  pub first-run : (number : ℕ) (r : Res Code) (rest : Checked) (e : Bytes) → Accepted (in-turn number r rest)
       → checked-run item v s (in-turn number r rest) e ≡ onward (judged-run (setting item v s e) r) (λ q. checked-run item v s rest q)
   unfolding judged-run checked-run onward
   first-run number (given c) rest e h = front-run c rest e (accepted-front c rest h)

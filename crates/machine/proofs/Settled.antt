@@ -22,6 +22,7 @@ use Rattle.machine.proofs.giving.give.Reads as give
 use Rattle.machine.proofs.loading.operand.Reads as operand
 use Rattle.machine.proofs.stepping.step.Reads as step
 use Rattle.machine.proofs.running.run_code.Reads as run-code
+use Rattle.machine.proofs.running.plan.Reads as plan
 use Rattle.machine.proofs.running.run_codes.Reads as run-codes
 
 same : {A B : Type 0} {r r′ s : A} {o o′ t : B} → (r ≡ s) × (o ≡ t) → (r′ ≡ s) × (o′ ≡ t) → (r ≡ r′) × (o ≡ o′)
@@ -94,6 +95,9 @@ run-code-settled : (κs : Lfts 4) → (a : _) (r r′ : _) (e e′ : _) → run-
     → Same-run r r′ (e .1 .1 .1 .1 .1 .1 .0 .now) (e′ .1 .1 .1 .1 .1 .1 .0 .now) (e .1 .1 .1 .1 .1 .1 .1 .0 .now) (e′ .1 .1 .1 .1 .1 .1 .1 .0 .now)
 run-code-settled κs a r r′ e e′ p q = same-run p q
 
+plan-settled : (κs : Lfts 1) → (a : _) (r r′ : _) (e e′ : _) → plan.Post κs a r e → plan.Post κs a r′ e′ → r ≡ r′
+plan-settled κs a r r′ e e′ p q = p ∙ sym q
+
 run-codes-settled : (κs : Lfts 4) → (a : _) (r r′ : _) (e e′ : _) → run-codes.Post κs a r e → run-codes.Post κs a r′ e′
-    → Same-run r r′ (e .1 .1 .1 .1 .1 .1 .0 .now) (e′ .1 .1 .1 .1 .1 .1 .0 .now) (e .1 .1 .1 .1 .1 .1 .1 .0 .now) (e′ .1 .1 .1 .1 .1 .1 .1 .0 .now)
+    → Same-run r r′ (e .1 .1 .1 .1 .1 .1 .1 .0 .now) (e′ .1 .1 .1 .1 .1 .1 .1 .0 .now) (e .1 .1 .1 .1 .1 .1 .1 .1 .0 .now) (e′ .1 .1 .1 .1 .1 .1 .1 .1 .0 .now)
 run-codes-settled κs a r r′ e e′ p q = same-run p q

@@ -3,3 +3,4 @@ pub mod Operators
 pub mod Bounds
 pub mod Stepping
 pub mod Runs
+pub mod Plans

@@ -8,6 +8,8 @@ mod settling;
 pub mod slots;
 pub mod stepping;
 
+use codes::Conversion;
+
 // One step: its cost and the entries then held, or its refusal.
 pub enum Step {
     Done { cost: u64, held: usize },
@@ -18,4 +20,10 @@ pub enum Step {
 pub enum Ran {
     Done { steps: u64 },
     Stopped { number: u64, steps: u64 },
+}
+
+// How the elements go through a string: by the one code that it is, other than F and read once, or by its codes in their turn.
+pub enum Plan {
+    Single(Conversion),
+    Codes,
 }

@@ -1,4 +1,5 @@
 // One code, and one element through all codes: the steps counted, each within what is left of the budget (document 01, "Steps").
+use crate::Plan;
 use crate::Ran;
 use crate::Step;
 use crate::giving;
@@ -25,6 +26,7 @@ ghost use Rattle.codes.specs.Meaning.{conversion-of};
 ghost use Rattle.machine.specs.Bounds.{Conversion-within};
 ghost use Rattle.machine.specs.Slots.{element-slot, entry-at, Slotted, Lent};
 ghost use Rattle.machine.specs.Stepping.{taken-one, converted-on, handed, setting-of, refusal-in};
+ghost use Rattle.machine.specs.Plans.{plan-of};
 ghost use Rattle.machine.specs.Runs.{Runs, answered, read-run, Stacks, converting, judged-run, Judged-well, checked-run, Accepted};
 
 // The refusal of a step, passed up with the steps counted before it.
@@ -189,6 +191,23 @@ pub fn run_code<'a>(
     }
 }
 
+// "Each element goes through the codes in order.": where the string is one code other than F, it is read once for all of them.
+pub fn plan(string: &[u8]) -> Plan
+    ensures { λ r. ⌜ r ≡ plan-of (now (string .entry)) ⌝ }
+{
+    match grammar::checking::head(string) {
+        Head::Function { first: _ } => Plan::Codes,
+        Head::Single(conversion) => {
+            if grammar::checking::code_end(string, 0) == string.len() {
+                Plan::Single(conversion)
+            } else {
+                Plan::Codes
+            }
+        }
+        Head::Bad => Plan::Codes,
+    }
+}
+
 // "Each element goes through the codes in order.": those of a string that has one code at least.
 fn run_parts<'a>(
     item: &'a [u8],
@@ -221,10 +240,11 @@ fn run_parts<'a>(
     }
 }
 
-// The element in its slot through all codes of an accepted string.
-pub fn run_codes<'a>(
+// The same by the string's plan: one step where it is a single code.
+fn run_planned<'a>(
     item: &'a [u8],
     string: &'a [u8],
+    plan: Plan,
     v: u64,
     s: u64,
     budget: u64,
@@ -233,11 +253,33 @@ pub fn run_codes<'a>(
     lens: &mut [usize],
     work: &mut [u8],
 ) -> Ran
-    requires { ⌜ Lent (now item) (now scratch) (now lens) (now work) × (steps ≤ budget) × Accepted (check (now string)) ⌝ }
+    requires { ⌜ Lent (now item) (now scratch) (now lens) (now work) × (steps ≤ budget) × Accepted (judged-all 1 (split value-mark (now string))) × (plan ≡ plan-of (now string)) ⌝ }
+    ensures { λ r. ⌜ Runs (within-budget budget steps (checked-run (now (item .entry)) v s (judged-all 1 (split value-mark (now (string .entry)))) (entry-at (now (scratch .entry)) (now (lens .entry)) element-slot))) r (now (scratch .exit)) (now (lens .exit)) ⌝ }
+{
+    match plan {
+        Plan::Single(conversion) => single(conversion, budget, steps, scratch, lens, work),
+        Plan::Codes => run_parts(item, string, v, s, budget, steps, scratch, lens, work),
+    }
+}
+
+// The element in its slot through all codes of an accepted string, by the string's plan.
+pub fn run_codes<'a>(
+    item: &'a [u8],
+    string: &'a [u8],
+    plan: Plan,
+    v: u64,
+    s: u64,
+    budget: u64,
+    steps: u64,
+    scratch: &mut [u8],
+    lens: &mut [usize],
+    work: &mut [u8],
+) -> Ran
+    requires { ⌜ Lent (now item) (now scratch) (now lens) (now work) × (steps ≤ budget) × Accepted (check (now string)) × (plan ≡ plan-of (now string)) ⌝ }
     ensures { λ r. ⌜ Runs (within-budget budget steps (checked-run (now (item .entry)) v s (check (now (string .entry))) (entry-at (now (scratch .entry)) (now (lens .entry)) element-slot))) r (now (scratch .exit)) (now (lens .exit)) ⌝ }
 {
     if string.len() == 0 {
         return Ran::Done { steps };
     }
-    run_parts(item, string, v, s, budget, steps, scratch, lens, work)
+    run_planned(item, string, plan, v, s, budget, steps, scratch, lens, work)
 }

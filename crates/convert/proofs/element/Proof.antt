@@ -26,6 +26,7 @@ run-codes-requires c κs =
       },
       start .pre .2,
       subst Accepted (sym (start .pre .1)) is-accepted,
+      start .pre .3,
     )
 
 returns-2 : tie.Need-returns-2

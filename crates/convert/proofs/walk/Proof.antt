@@ -10,12 +10,12 @@ use Rattle.convert.proofs.walk.Statement.{statement}
 use Rattle.convert.proofs.walk.Tie as tie
 
 abbrev Inv-loop : tie.InvT-loop
-Inv-loop item code text v s budget out₀ scratch₀ lens₀ work₀ at₀ place₀ steps₀ so-far₀ out scratch lens work at place steps so-far =
+Inv-loop item code plan text v s budget out₀ scratch₀ lens₀ work₀ at₀ place₀ steps₀ so-far₀ out scratch lens work at place steps so-far =
     Turn item code text budget (elements-outcome item code v s budget text) (length out₀) at place steps so-far out scratch lens
     × (length scratch ≡ length scratch₀) × (length lens ≡ length lens₀) × (length work ≡ length work₀)
 
 abbrev μ-loop : tie.MeasureT-loop
-μ-loop item code text v s budget out₀ scratch₀ lens₀ work₀ at₀ place₀ steps₀ so-far₀ out scratch lens work at place steps so-far =
+μ-loop item code plan text v s budget out₀ scratch₀ lens₀ work₀ at₀ place₀ steps₀ so-far₀ out scratch lens work at place steps so-far =
     length text - at
 
 loop-holds : tie.Need-loop-holds Inv-loop μ-loop
@@ -41,6 +41,7 @@ add-requires c κs =
       start .pre .1,
       inv .spent,
       turn-small _ _ _ (inv .inside) (start .pre .2) (inv .small),
+      start .pre .5,
     )
 
 enum-known-added : tie.Need-enum-known-added Inv-loop μ-loop

@@ -1,4 +1,4 @@
--- `machine::running::run_codes` meets its contract: an empty string leaves the element; any other is run part by part.
+-- `machine::running::run_codes` meets its contract: an empty string leaves the element; any other is run by its plan.
 use borrow.Author.Needs.{needs}
 use mathlib.Core.Path.{ap}
 use denote.Ref.{now}
@@ -14,10 +14,10 @@ use Rattle.machine.proofs.running.run_codes.Tie as tie
 returns : tie.Need-returns
 returns c = let start = c .before .before .before .before .before .before in no-codes _ _ _ _ _ _ (start .pre .0 .slotted) (c .if1 .taken)
 
-run-parts-requires : tie.Need-run-parts-requires
-run-parts-requires c κs =
+run-planned-requires : tie.Need-run-planned-requires
+run-planned-requires c κs =
     let start = c .before .before .before .before .before .before .before .before .before in
-    (start .pre .0, start .pre .1, rw (checked-parts (now (start .args .string)) (start .pre .2) (c .before .before .before .if1 .left)) at (start .pre .2))
+    (start .pre .0, start .pre .1, rw (checked-parts (now (start .args .string)) (start .pre .2) (c .before .before .before .if1 .left)) at (start .pre .2), start .pre .3)
 
 returns-2 : tie.Need-returns-2
 returns-2 c =
@@ -26,14 +26,14 @@ returns-2 c =
     runs-as
     (ap (λ (x : Checked). within-budget (a .budget) (a .steps) (checked-run (now (a .item)) (a .v) (a .s) x (entry-at (now (a .scratch)) (now (a .lens)) element-slot)))
     (checked-parts (now (a .string)) (start .pre .2) (c .before .before .before .before .before .before .before .before .before .before .if1 .left)))
-    (c .before .before .before .before .before .before .run-parts .ensures)
+    (c .before .before .before .before .before .before .run-planned .ensures)
 
 pub run-codes-spec : {M : Type 1} → statement M
 run-codes-spec =
     tie.close
     (tie.spec
     returns
-    run-parts-requires
+    run-planned-requires
     (λ c. search needs)
     (λ c. search needs)
     (λ c. search needs)

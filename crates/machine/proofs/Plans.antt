@@ -1,0 +1,93 @@
+-- What a plan says of an accepted string: where it is a single code, every element's run is the one step of that code. Assumes nothing.
+use mathlib.Core.Path.{_≡_, refl, ap, _∙_}
+use mathlib.Core.Bool.{Bool, true, false}
+use mathlib.Core.List.{[], _∷_}
+use Prim.Native.Nat.{ℕ, _-_}
+use native.Mathlib.Omega.{arith}
+use lib.ListN.{length}
+use lib.Seq.{take-all}
+use lib.Dec.{eqb}
+use borrow.Author.Tests.{eq-eqb, ne-eqb, eqb-true}
+use Rattle.paper.specs.Bytes.{Bytes, if_then_else_}
+use Rattle.paper.specs.Sizes.{entry-most}
+use Rattle.paper.specs.Refusals.{Res, given, refused}
+use Rattle.paper.specs.Records.{split}
+use Rattle.paper.specs.Checking.{judged, judged-all, Checked, accepted, in-turn}
+use Rattle.paper.specs.Steps.{Run, onward, conversion-gives, limited, codes-run}
+use Rattle.codes.specs.declared.Conversion.{Conversion}
+use Rattle.codes.specs.Meaning.{conversion-of}
+use Rattle.grammar.specs.declared.Head.{Head}
+use Rattle.grammar.specs.Checking.{head, code-end}
+use Rattle.grammar.proofs.Strings.{split-last}
+use Rattle.machine.specs.declared.Plan.{Plan}
+use Rattle.machine.specs.Bounds.{Conversion-within}
+use Rattle.machine.specs.Stepping.{setting}
+use Rattle.machine.specs.Runs.{converting, Judged-well, checked-run, Accepted}
+use Rattle.machine.specs.Plans.{planned, plan-of}
+use Rattle.machine.proofs.CodeRuns.{single-code, single-within}
+use Rattle.machine.proofs.Parts.{accepted-parts, first-run}
+
+-- the plan, way by way
+module _ (string : Bytes) {h : Head} (e : h ≡ head string) where
+  pub plan-function : {first : ℕ} → h ≡ Head.Function first → Plan.Codes ≡ plan-of string
+  unfolding plan-of planned
+  plan-function f = rw (← e, f)
+
+  pub plan-bad : h ≡ Head.Bad → Plan.Codes ≡ plan-of string
+  unfolding plan-of planned
+  plan-bad f = rw (← e, f)
+
+  module _ {c : Conversion} (f : h ≡ Head.Single c) {end : ℕ} (g : end ≡ code-end string 0) where
+    pub plan-alone : end ≡ length string → Plan.Single c ≡ plan-of string
+    unfolding plan-of planned
+    plan-alone k = rw (← e, f, ← g, eq-eqb end (length string) k)
+
+    pub plan-parted : (end ≡ length string → ⊥) → Plan.Codes ≡ plan-of string
+    unfolding plan-of planned
+    plan-parted k = rw (← e, f, ← g, ne-eqb end (length string) k)
+
+-- the answer of a single code is that of the string, with no code after it
+last-run : (item : Bytes) (v s taken : ℕ) (x : Res Bytes)
+    → onward (converting taken x) (λ (r : Bytes). checked-run item v s (accepted []) r) ≡ converting taken x
+unfolding onward converting checked-run codes-run
+last-run item v s taken (refused n) = refl
+last-run item v s taken (given bs) = refl
+
+module _ {c : Conversion} (string : Bytes) (ready : Accepted (judged-all 1 (split 253 string))) (e : Plan.Single c ≡ plan-of string) where
+  -- no mark parts it
+  alone : (head string ≡ Head.Single c) × (code-end string 0 ≡ length string)
+  unfolding plan-of planned
+  alone = go (head string) refl e
+    where
+      go : (h : Head) → head string ≡ h → Plan.Single c ≡ planned string h → (head string ≡ Head.Single c) × (code-end string 0 ≡ length string)
+      go (Head.Function first) f g = let z : _≡_ {A = ℕ} 0 1 = cc in absurd (omega arith)
+      go (Head.Single k) f g = pick (eqb (code-end string 0) (length string)) refl g
+        where
+          pick : (t : Bool) → eqb (code-end string 0) (length string) ≡ t → Plan.Single c ≡ (if t then Plan.Single k else Plan.Codes)
+              → (head string ≡ Head.Single c) × (code-end string 0 ≡ length string)
+          pick true q g = let same : k ≡ c = cc in (f ∙ ap (λ (x : Conversion). Head.Single x) same, eqb-true _ _ q)
+          pick false q g = let z : _≡_ {A = ℕ} 0 1 = cc in absurd (omega arith)
+      go Head.Bad f g = let z : _≡_ {A = ℕ} 0 1 = cc in absurd (omega arith)
+
+  one-code : judged-all 1 (split 253 string) ≡ in-turn 1 (judged string) (accepted [])
+  unfolding judged-all
+  one-code =
+      ap (judged-all 1)
+      (split-last string 0 (omega arith) refl (alone .1) ∙ ap (λ (p : Bytes). p ∷ []) (take-all (code-end string 0 - 0) string (omega (arith, alone .1))))
+
+  ready-one : Accepted (in-turn 1 (judged string) (accepted []))
+  ready-one = rw one-code at ready
+
+  well : Judged-well (judged string)
+  well = accepted-parts 1 (judged string) (accepted []) ready-one .0
+
+  pub plan-within : Conversion-within c
+  plan-within = single-within string (alone .0)
+
+  pub plan-run : (item : Bytes) (v s : ℕ) (text : Bytes)
+      → checked-run item v s (judged-all 1 (split 253 string)) text ≡ converting (length text) (limited entry-most (conversion-gives (conversion-of c) text))
+  plan-run item v s text =
+      ap (λ (x : Checked). checked-run item v s x text) one-code
+      ∙ first-run item v s 1 (judged string) (accepted []) text ready-one
+      ∙ ap (λ (r : Run Bytes). onward r (λ (q : Bytes). checked-run item v s (accepted []) q)) (single-code string well (alone .0) (setting item v s text))
+      ∙ last-run item v s (length text) (limited entry-most (conversion-gives (conversion-of c) text))

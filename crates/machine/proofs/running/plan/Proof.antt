@@ -1,0 +1,31 @@
+-- `machine::running::plan` meets its contract: way by way. Assumes nothing.
+use borrow.Author.Needs.{needs}
+use Rattle.machine.proofs.Plans.{plan-function, plan-alone, plan-parted, plan-bad}
+use Rattle.machine.proofs.running.plan.Statement.{statement}
+use Rattle.machine.proofs.running.plan.Tie as tie
+
+returns : tie.Need-returns
+returns c = plan-function _ (c .before .before .head .ensures) (c .enum-told .given .1)
+
+returns-2 : tie.Need-returns-2
+returns-2 c = plan-alone _ (c .before .before .before .before .before .head .ensures) (c .before .before .before .conversion .given .1) (c .before .code-end .ensures) (c .if1 .taken)
+
+returns-3 : tie.Need-returns-3
+returns-3 c = plan-parted _ (c .before .before .before .before .before .head .ensures) (c .before .before .before .conversion .given .1) (c .before .code-end .ensures) (c .if1 .left)
+
+returns-4 : tie.Need-returns-4
+returns-4 c = plan-bad _ (c .before .before .head .ensures) (c .enum-told2 .given .1)
+
+pub plan-spec : {M : Type 1} → statement M
+plan-spec =
+    tie.close
+    (tie.spec
+    (λ c κs. search needs)
+    (λ c. search needs)
+    (λ c. search needs)
+    (λ c κs. search needs)
+    (λ c. search needs)
+    returns
+    returns-2
+    returns-3
+    returns-4)
