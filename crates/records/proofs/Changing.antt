@@ -11,6 +11,7 @@ use borrow.Author.Tests.{eqb-true}
 use Rattle.paper.specs.Bytes.{Bytes, within, if_then_else_}
 use Rattle.paper.specs.Sizes.{attribute-mark, value-mark, subvalue-mark}
 use Rattle.paper.specs.Records.{opened, split, join, alter, path, replaced}
+use Rattle.paper.proofs.Splitting.{join-split}
 use Rattle.records.specs.Scan.{upto, skip, spot-at, spot, marks, changed}
 use Rattle.records.specs.declared.Stop.{Stop}
 use Rattle.records.proofs.Laws.{within-next, upto-all, drop-tail, take-upto}
@@ -29,21 +30,6 @@ module _ (m : ℕ) where
   unfolding join split
   join-front p [] = refl
   join-front p (b ∷ bs) = join-opened p (eqb b m) b (split m bs)
-
-  join-more : (b : ℕ) (ps : List Bytes) → join m (opened false b ps) ≡ b ∷ join m ps
-  unfolding join
-  join-more b [] = refl
-  join-more b (p ∷ []) = refl
-  join-more b (p ∷ q ∷ ps) = refl
-
-  join-byte : (t : Bool) (b : ℕ) (bs : Bytes) → eqb b m ≡ t → join m (split m bs) ≡ bs → join m (opened t b (split m bs)) ≡ b ∷ bs
-  join-byte true b bs e ih = join-front [] bs ∙ ap (λ (l : Bytes). m ∷ l) ih ∙ ap (λ (k : ℕ). k ∷ bs) (sym (eqb-true b m e))
-  join-byte false b bs e ih = join-more b (split m bs) ∙ ap (λ (l : Bytes). b ∷ l) ih
-
-  join-split : (bs : Bytes) → join m (split m bs) ≡ bs
-  unfolding join split
-  join-split [] = refl
-  join-split (b ∷ bs) = join-byte (eqb b m) b bs refl (join-split bs)
 
   pub join-alter : (n : ℕ) (f : Bytes → Bytes) (p : Bytes) (ps : List Bytes) → join m (p ∷ alter n f ps) ≡ p ++ m ∷ join m (alter n f ps)
   unfolding join alter

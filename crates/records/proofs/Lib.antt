@@ -1,4 +1,5 @@
 pub mod Turns
+pub mod Blocks
 pub mod Laws
 pub mod Refusing
 pub mod Finding

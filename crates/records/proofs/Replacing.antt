@@ -19,6 +19,7 @@ use Rattle.records.specs.Planned.{lawful-new, Small, sized-plan, planned
 use Rattle.records.specs.declared.Spot.{Spot}
 use Rattle.records.specs.declared.Plan.{Plan}
 use Rattle.records.specs.declared.Plan.the-variants.{Ready, Refused}
+use Rattle.records.proofs.Turns.{or-left, or-right}
 use Rattle.records.proofs.Laws.{not-within, upto-all, Lies, spot-lies, spot-few, length-changed}
 use Rattle.records.proofs.Changing.{behind, behind-cons, upto-cons, join-alter, join-first-piece, whole-framed, replaced-spot}
 use Rattle.records.proofs.Refusing.{Told, told-unless, told-when, told-then, passed, stopped, told-find, id-upto}
@@ -79,14 +80,6 @@ lawful item a v s e =
     }
 
 -- ---- the id of the result
-
-or-left : (t u : Bool) → t || u ≡ false → t ≡ false
-or-left true u e = e
-or-left false u e = refl
-
-or-right : (t u : Bool) → t || u ≡ false → u ≡ false
-or-right true u e = absurd (true≢false e)
-or-right false u e = e
 
 -- no mark of any kind is no mark of this kind
 not-here : (low high b : ℕ) → buffer-mark ≤ low → high ≤ segment-mark → is-mark b ≡ false → within low high b ≡ false

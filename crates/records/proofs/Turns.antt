@@ -1,31 +1,33 @@
 -- What one turn of each loop does, over plain lists: what the rest gives from the next place is what it gives from this one.
 use mathlib.Core.Path.{_≡_, refl, sym, ap, _∙_}
-use mathlib.Core.Bool.{Bool, true, false, _&&_, _||_}
+use mathlib.Core.Bool.{Bool, true, false, true≢false, _||_}
 use mathlib.Core.List.{[], _∷_}
 use Prim.Native.Nat.{ℕ, suc, _+_, _-_, _≤_, _<_}
 use native.Mathlib.Numerals.{add-one}
 use native.Mathlib.Omega.{arith}
 use lib.ListN.{length, take, drop, getD, drop-of-length-le}
 use lib.Seq.{drop-cons}
-use lib.Dec.{leb, eqb}
-use mir.Val.{Fits}
-use mir.Syntax.{w8}
-use borrow.Author.Tests.{eq-eqb, ne-eqb, le-leb, lt-leb}
+use lib.Dec.{eqb}
+use borrow.Author.Tests.{eq-eqb, ne-eqb}
 use Rattle.paper.specs.Bytes.{Bytes, any, within, if_then_else_}
-use Rattle.paper.specs.Sizes.{attribute-mark, buffer-mark, is-mark}
-use Rattle.records.specs.Scan.{range, upto, skip}
+use Rattle.paper.specs.Sizes.{attribute-mark}
+use Rattle.records.specs.Scan.{range, upto, tally, skip}
 
 -- the byte at a place, and what is behind it
 here : (l : Bytes) (i : ℕ) → i < length l → drop i l ≡ getD l i 0 ∷ drop (i + 1) l
 here l i h = drop-cons l i 0 h ∙ ap (λ (k : ℕ). getD l i 0 ∷ drop k l) (sym (add-one i))
 
+pub or-left : (t u : Bool) → t || u ≡ false → t ≡ false
+or-left true u e = e
+or-left false u e = refl
+
+pub or-right : (t u : Bool) → t || u ≡ false → u ≡ false
+or-right true u e = absurd (true≢false e)
+or-right false u e = e
+
 or-false : (a : Bool) → a || false ≡ a
 or-false true = refl
 or-false false = refl
-
-and-true : (a : Bool) → a && true ≡ a
-and-true true = refl
-and-true false = refl
 
 -- ---- a test of every byte, without early exit
 
@@ -48,18 +50,28 @@ module _ (p : ℕ → Bool) (text : Bytes) (flag : Bool) (i : ℕ) (e : any p te
   unfolding any
   any-all h = sym (e ∙ ap (λ (l : Bytes). flag || any p l) (drop-of-length-le text h) ∙ or-false flag)
 
--- no byte is above 255
-is-mark-byte : (b : ℕ) → Fits w8 b → leb buffer-mark b ≡ is-mark b
-unfolding is-mark
-is-mark-byte b f =
-    let small : b ≤ 255 = omega arith in
-    sym (ap (λ (t : Bool). leb buffer-mark b && t) (le-leb b 255 small) ∙ and-true (leb buffer-mark b))
+-- ---- how many bytes are a mark
 
-pub mark-byte : (b : ℕ) → Fits w8 b → buffer-mark ≤ b → is-mark b ≡ true
-mark-byte b f h = sym (is-mark-byte b f) ∙ le-leb buffer-mark b h
+module _ (m : ℕ) (text : Bytes) (n i : ℕ) (e : tally m text ≡ n + tally m (drop i text)) where
+  tally-here : i < length text → tally m text ≡ n + ((if eqb (getD text i 0) m then 1 else 0) + tally m (drop (i + 1) text))
+  unfolding tally
+  tally-here h = e ∙ ap (λ (l : Bytes). n + tally m l) (here text i h)
 
-pub plain-byte : (b : ℕ) → Fits w8 b → b < buffer-mark → is-mark b ≡ false
-plain-byte b f h = sym (is-mark-byte b f) ∙ lt-leb buffer-mark b h
+  pub tally-hit : i < length text → getD text i 0 ≡ m → tally m text ≡ n + 1 + tally m (drop (i + 1) text)
+  tally-hit h t =
+      let all = rw (eq-eqb (getD text i 0) m t) at (tally-here h) in
+      omega arith
+
+  pub tally-miss : i < length text → (getD text i 0 ≡ m → ⊥) → tally m text ≡ n + tally m (drop (i + 1) text)
+  tally-miss h t =
+      let all = rw (ne-eqb (getD text i 0) m t) at (tally-here h) in
+      omega arith
+
+  pub tally-all : length text ≤ i → n ≡ tally m text
+  unfolding tally
+  tally-all h =
+      let all = e ∙ ap (λ (l : Bytes). n + tally m l) (drop-of-length-le text h) in
+      omega arith
 
 -- ---- the first byte within low .. high
 
@@ -93,7 +105,7 @@ module _ (low high : ℕ) (item : Bytes) (to : ℕ) (inside : to ≤ length item
 -- ---- past the marks
 
 -- a turn, with what is left seen as a successor
-skip-cons : (m b : ℕ) (bs : Bytes) (at n k : ℕ) → n ≡ suc k
+pub skip-cons : (m b : ℕ) (bs : Bytes) (at n k : ℕ) → n ≡ suc k
     → skip m (b ∷ bs) at n ≡ (if within (suc m) attribute-mark b then record { at = at; left = n } else skip m bs (at + 1) (if eqb b m then k else n))
 unfolding skip
 skip-cons m b bs at n k e = rw (e, add-one)

@@ -18,6 +18,11 @@ unfoldable pub upto : ℕ → ℕ → Bytes → Bytes
 upto low high [] = []
 upto low high (b ∷ bs) = if within low high b then [] else (b ∷ upto low high bs)
 
+-- how many bytes are m
+unfoldable pub tally : ℕ → Bytes → ℕ
+tally m [] = 0
+tally m (b ∷ bs) = (if eqb b m then 1 else 0) + tally m bs
+
 -- one of two bytes
 unfoldable pub is-either : ℕ → ℕ → ℕ → Bool
 is-either x y b = eqb b x || eqb b y

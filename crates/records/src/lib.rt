@@ -1,5 +1,6 @@
 // Finding, extracting and replacing in a record: document 01, "The record and its addresses".
-// A record is tested once, in a loop without early exit; then its marks are counted from the left, no byte twice.
+// A record is tested once, in a loop without early exit; then its marks are counted from the left, no byte twice:
+// by blocks where there may be many bytes, which is compiled to SIMD, and one by one where there are few.
 // `find`, `extract` and `replace` take any input; the rest is for the crates above, which have tested the record.
 use paper::Given;
 use paper::Limit;
@@ -9,13 +10,13 @@ ghost use mathlib.Core.Path.{_≡_};
 ghost use Prim.Native.Nat.{_+_, _-_, _^_, _≤_, _<_};
 ghost use mathlib.Core.List.{_++_};
 ghost use lib.ListN.{length, take, drop, replicate};
-ghost use Rattle.paper.specs.Bytes.{any, buffer};
-ghost use Rattle.paper.specs.Sizes.{is-mark};
+ghost use Rattle.paper.specs.Bytes.{any, within, buffer};
+ghost use Rattle.paper.specs.Sizes.{attribute-mark};
 ghost use Rattle.paper.specs.Refusals.{given, refusal-of, answer-of};
 ghost use Rattle.paper.specs.Answers.{given-of};
 ghost use Rattle.paper.specs.Records.{lawful-id, lawful-record, lawful-address, place, path, reads, find, extract, replace};
 ghost use Rattle.records.specs.Found.{lawful-find, found-of, Within, found-bytes, found-there};
-ghost use Rattle.records.specs.Scan.{range, upto, is-either, skip, spot-at, spot, marks, made, changed, changed-length};
+ghost use Rattle.records.specs.Scan.{range, upto, tally, is-either, skip, spot-at, spot, marks, made, changed, changed-length};
 ghost use Rattle.records.specs.Planned.{lawful-new, Small, sized-plan, planned, plan-answer};
 ghost use Rattle.lent.specs.Over.{over};
 
@@ -47,8 +48,46 @@ enum Plan {
     Refused(u64),
 }
 
-// The first place from `from` up to `to` with a byte within low .. high, or `to`.
-pub fn next_mark(item: &[u8], from: usize, to: usize, low: u8, high: u8) -> usize
+// As many bytes as are tested in one go where a scan may be long.
+const BLOCK: usize = 16;
+
+// A record below this is short.
+const SHORT: usize = 4 * BLOCK;
+
+// Whether a byte within low .. high is there. No early exit and a flag as wide as a byte, so that it is compiled to SIMD.
+fn some_within(text: &[u8], low: u8, high: u8) -> bool
+    ensures { λ r. ⌜ r ≡ any (within low high) (now (text .entry)) ⌝ }
+{
+    let mut found = 0u8;
+    let mut i = 0;
+    while i < text.len() {
+        let b = text[i];
+        i += 1;
+        if (low <= b) & (b <= high) {
+            found = 1;
+        }
+    }
+    found != 0
+}
+
+// How many bytes are the mark, in the same way.
+fn tally(text: &[u8], mark: u8) -> u64
+    ensures { λ r. ⌜ r ≡ tally mark (now (text .entry)) ⌝ }
+{
+    let mut n = 0;
+    let mut i = 0;
+    while i < text.len() {
+        let b = text[i];
+        i += 1;
+        if b == mark {
+            n += 1;
+        }
+    }
+    n
+}
+
+// The first place from `from` up to `to` with a byte within low .. high, or `to`: byte by byte.
+fn first_within(item: &[u8], from: usize, to: usize, low: u8, high: u8) -> usize
     requires { ⌜ (from ≤ to) × (to ≤ length (now item)) ⌝ }
     ensures { λ r. ⌜ r ≡ from + length (upto low high (range (now (item .entry)) from to)) ⌝ }
 {
@@ -61,6 +100,63 @@ pub fn next_mark(item: &[u8], from: usize, to: usize, low: u8, high: u8) -> usiz
         at += 1;
     }
     to
+}
+
+// Past the blocks that hold no byte within low .. high.
+fn pass_blocks(item: &[u8], from: usize, to: usize, low: u8, high: u8) -> usize
+    requires { ⌜ (from ≤ to) × (to ≤ length (now item)) ⌝ }
+    ensures { λ r. ⌜ (r ≤ to) × (from + length (upto low high (range (now (item .entry)) from to)) ≡ r + length (upto low high (range (now (item .entry)) r to))) ⌝ }
+{
+    let mut at = from;
+    while BLOCK <= to - at {
+        let next = at + BLOCK;
+        if some_within(&item[at..next], low, high) {
+            return at;
+        }
+        at = next;
+    }
+    at
+}
+
+// The same place: by blocks, and the last bytes one by one.
+fn far_mark(item: &[u8], from: usize, to: usize, low: u8, high: u8) -> usize
+    requires { ⌜ (from ≤ to) × (to ≤ length (now item)) ⌝ }
+    ensures { λ r. ⌜ r ≡ from + length (upto low high (range (now (item .entry)) from to)) ⌝ }
+{
+    let at = pass_blocks(item, from, to, low, high);
+    first_within(item, at, to, low, high)
+}
+
+// At most a block behind `from`.
+fn near(from: usize, to: usize) -> usize
+    requires { ⌜ from ≤ to ⌝ }
+    ensures { λ r. ⌜ (from ≤ r) × (r ≤ to) ⌝ }
+{
+    if to - from < BLOCK {
+        return to;
+    }
+    from + BLOCK
+}
+
+// The first place from `from` up to `to` with a byte within low .. high, or `to`.
+// Most elements are short: the first bytes are tested one by one, and blocks only behind them.
+pub fn next_mark(item: &[u8], from: usize, to: usize, low: u8, high: u8) -> usize
+    requires { ⌜ (from ≤ to) × (to ≤ length (now item)) ⌝ }
+    ensures { λ r. ⌜ r ≡ from + length (upto low high (range (now (item .entry)) from to)) ⌝ }
+{
+    if to <= from {
+        return to;
+    }
+    let b = item[from];
+    if (low <= b) & (b <= high) {
+        return from;
+    }
+    let end = near(from, to);
+    let at = first_within(item, from, end, low, high);
+    if at < end {
+        return at;
+    }
+    far_mark(item, end, to, low, high)
 }
 
 // Past n marks, until a mark above them ends the piece that holds them.
@@ -86,6 +182,35 @@ fn skip(item: &[u8], from: usize, mark: u8, n: u64) -> Stop
     Stop { at, left: 0 }
 }
 
+// Past the blocks that end neither the marks to pass nor the piece that holds them.
+fn skip_blocks(item: &[u8], from: usize, mark: u8, n: u64) -> Stop
+    requires { ⌜ (from ≤ length (now item)) × (mark ≤ attribute-mark) ⌝ }
+    ensures { λ r. ⌜ (r .at ≤ length (now (item .entry))) × (skip mark (drop from (now (item .entry))) from n ≡ skip mark (drop (r .at) (now (item .entry))) (r .at) (r .left)) ⌝ }
+{
+    let mut at = from;
+    let mut left = n;
+    while BLOCK <= item.len() - at {
+        let next = at + BLOCK;
+        let passed = tally(&item[at..next], mark);
+        let closed = some_within(&item[at..next], mark + 1, Mark::ATTRIBUTE);
+        if (left <= passed) | closed {
+            return Stop { at, left };
+        }
+        left -= passed;
+        at = next;
+    }
+    Stop { at, left }
+}
+
+// The same: by blocks, and the last bytes one by one.
+fn far_skip(item: &[u8], from: usize, mark: u8, n: u64) -> Stop
+    requires { ⌜ (from ≤ length (now item)) × (mark ≤ attribute-mark) ⌝ }
+    ensures { λ r. ⌜ r ≡ skip mark (drop from (now (item .entry))) from n ⌝ }
+{
+    let near = skip_blocks(item, from, mark, n);
+    skip(item, near.at, mark, near.left)
+}
+
 // Whether a byte x or y is there. No early exit and a flag as wide as a byte, so that it is compiled to SIMD.
 fn holds(text: &[u8], x: u8, y: u8) -> bool
     ensures { λ r. ⌜ r ≡ any (is-either x y) (now (text .entry)) ⌝ }
@@ -102,27 +227,11 @@ fn holds(text: &[u8], x: u8, y: u8) -> bool
     bad != 0
 }
 
-// Whether a byte 251 to 255 is there, in the same way.
-fn marked(text: &[u8]) -> bool
-    ensures { λ r. ⌜ r ≡ any is-mark (now (text .entry)) ⌝ }
-{
-    let mut bad = 0u8;
-    let mut i = 0;
-    while i < text.len() {
-        let b = text[i];
-        i += 1;
-        if Mark::BUFFER <= b {
-            bad = 1;
-        }
-    }
-    bad != 0
-}
-
 // Refusal 3: "id over 48 .., or holding 252 or 253". 0 for none.
 fn lawful_id(item: &[u8]) -> u64
     ensures { λ r. ⌜ r ≡ refusal-of (lawful-id (now (item .entry))) ⌝ }
 {
-    let end = next_mark(item, 0, item.len(), Mark::ATTRIBUTE, Mark::ATTRIBUTE);
+    let end = first_within(item, 0, item.len(), Mark::ATTRIBUTE, Mark::ATTRIBUTE);
     if Limit::ID < end {
         return refusal::BAD_ID;
     }
@@ -176,7 +285,21 @@ fn spot_at(item: &[u8], at: usize, mark: u8, attributes: u64, values: u64, subva
 {
     Spot {
         start: at,
-        end: next_mark(item, at, item.len(), mark, Mark::ATTRIBUTE),
+        end: first_within(item, at, item.len(), mark, Mark::ATTRIBUTE),
+        attributes,
+        values,
+        subvalues,
+    }
+}
+
+// The same, for a piece that may be long.
+fn far_spot(item: &[u8], at: usize, mark: u8, attributes: u64, values: u64, subvalues: u64) -> Spot
+    requires { ⌜ at ≤ length (now item) ⌝ }
+    ensures { λ r. ⌜ r ≡ spot-at mark (now (item .entry)) at attributes values subvalues ⌝ }
+{
+    Spot {
+        start: at,
+        end: far_mark(item, at, item.len(), mark, Mark::ATTRIBUTE),
         attributes,
         values,
         subvalues,
@@ -184,7 +307,7 @@ fn spot_at(item: &[u8], at: usize, mark: u8, attributes: u64, values: u64, subva
 }
 
 // Where a scan finds no further mark it stops at the end of the piece that holds it, and the scans below it stop there too.
-fn locate(item: &[u8], a: u64, v: u64, s: u64) -> Spot
+fn locate_near(item: &[u8], a: u64, v: u64, s: u64) -> Spot
     ensures { λ r. ⌜ r ≡ spot (now (item .entry)) a v s ⌝ }
 {
     let attribute = skip(item, 0, Mark::ATTRIBUTE, a);
@@ -204,6 +327,39 @@ fn locate(item: &[u8], a: u64, v: u64, s: u64) -> Spot
         value.left,
         subvalue.left,
     )
+}
+
+// The same by blocks, for a record that may be long.
+fn locate_far(item: &[u8], a: u64, v: u64, s: u64) -> Spot
+    ensures { λ r. ⌜ r ≡ spot (now (item .entry)) a v s ⌝ }
+{
+    let attribute = far_skip(item, 0, Mark::ATTRIBUTE, a);
+    if v == 0 {
+        return far_spot(item, attribute.at, Mark::ATTRIBUTE, attribute.left, 0, 0);
+    }
+    let value = far_skip(item, attribute.at, Mark::VALUE, v - 1);
+    if s == 0 {
+        return far_spot(item, value.at, Mark::VALUE, attribute.left, value.left, 0);
+    }
+    let subvalue = far_skip(item, value.at, Mark::SUBVALUE, s - 1);
+    far_spot(
+        item,
+        subvalue.at,
+        Mark::SUBVALUE,
+        attribute.left,
+        value.left,
+        subvalue.left,
+    )
+}
+
+// A short record is walked byte by byte: tests of blocks would cost more than they save.
+fn locate(item: &[u8], a: u64, v: u64, s: u64) -> Spot
+    ensures { λ r. ⌜ r ≡ spot (now (item .entry)) a v s ⌝ }
+{
+    if item.len() < SHORT {
+        return locate_near(item, a, v, s);
+    }
+    locate_far(item, a, v, s)
 }
 
 // The place of an address, without the tests.
@@ -266,7 +422,7 @@ fn lawful_new(new: &[u8], a: u64) -> u64
     if Limit::ENTRY < new.len() {
         return refusal::OVER_LONG_ENTRY;
     }
-    if marked(new) {
+    if some_within(new, Mark::BUFFER, Mark::SEGMENT) {
         return refusal::MARK_IN_ELEMENT;
     }
     if (a == 0) & (Limit::ID < new.len()) {

@@ -1,42 +1,42 @@
--- `records::next_mark` meets its contract: from place to place the answer stays the same, until a byte within the two stops it.
-use Prim.Native.Nat.{_+_, _-_, _≤_}
-use mathlib.Core.Path.{_≡_, refl, _∙_}
+-- `records::next_mark` meets its contract: the first bytes have the answer, or it is the rest's.
+use mathlib.Core.Path.{sym, _∙_}
 use native.Mathlib.Omega.{arith}
-use lib.ListN.{length}
+use borrow.Author.Needs.{needs}
 use denote.Ref.{now}
-use Rattle.records.specs.Scan.{range, upto}
-use Rattle.records.proofs.Turns.{upto-hit, upto-more, upto-none}
+use Rattle.records.proofs.Turns.{upto-hit, upto-none}
+use Rattle.records.proofs.Blocks.{mark-near, mark-far}
 use Rattle.records.proofs.next_mark.Statement.{statement}
 use Rattle.records.proofs.next_mark.Tie as tie
 
-abbrev Inv-loop : tie.InvT-loop
-Inv-loop item from to low high at₀ at =
-    (from ≤ at) × (at ≤ to) × (from + length (upto low high (range item from to)) ≡ at + length (upto low high (range item at to)))
-
-abbrev μ-loop : tie.MeasureT-loop
-μ-loop item from to low high at₀ at = to - at
-
-returns : tie.Need-returns Inv-loop μ-loop
+returns : tie.Need-returns
 returns c =
-    let a = c .before .before .before .before .args in
-    let at = c .before .before .before .loop .at in
-    let hit = upto-hit (a .low) (a .high) (now (a .item)) (a .to) (c .before .before .before .before .pre .1) at (c .before .before .loop-test .taken) (c .if1 .taken) in
+    let s = c .before .before in
+    let a = s .args in
+    let none = upto-none (a .low) (a .high) (now (a .item)) (a .to) (s .pre .1) (a .from) (c .if1 .taken) in
     omega arith
 
-loop-again : tie.Need-loop-again Inv-loop μ-loop
-loop-again c =
-    let a = c .before .before .before .before .args in
-    let at = c .before .before .before .loop .at in
-    let more = upto-more (a .low) (a .high) (now (a .item)) (a .to) (c .before .before .before .before .pre .1) at (c .before .before .loop-test .taken) (c .if1 .left) in
-    (omega arith, omega arith, c .before .before .before .loop .inv .2 ∙ more)
-
-returns-2 : tie.Need-returns-2 Inv-loop μ-loop
+returns-2 : tie.Need-returns-2
 returns-2 c =
-    let a = c .before .before .args in
-    let none = upto-none (a .low) (a .high) (now (a .item)) (a .to) (c .before .before .pre .1) (c .before .loop .at) (c .loop-test .left) in
+    let s = c .before .before .before .before in
+    let a = s .args in
+    let hit = upto-hit (a .low) (a .high) (now (a .item)) (a .to) (s .pre .1) (a .from) (c .before .before .if1 .left) (c .if2 .taken) in
     omega arith
+
+returns-3 : tie.Need-returns-3
+returns-3 c =
+    let s = c .before .before .before .before .before .before .before in
+    let a = s .args in
+    let n = c .before .before .near in
+    c .before .first-within .ensures ∙ sym (mark-near (a .low) (a .high) (now (a .item)) (a .from) (n .result) (a .to) (n .ensures .0) (n .ensures .1) (s .pre .1) (omega arith))
+
+returns-4 : tie.Need-returns-4
+returns-4 c =
+    let s = c .before .before .before .before .before .before .before .before in
+    let a = s .args in
+    let n = c .before .before .before .near in
+    c .far-mark .ensures ∙ sym (mark-far (a .low) (a .high) (now (a .item)) (a .from) (n .result) (a .to) (n .ensures .0) (n .ensures .1) (s .pre .1) (omega arith))
 
 pub next-mark-spec : {M : Type 1} → statement M
 next-mark-spec =
     tie.close
-    (tie.spec Inv-loop μ-loop (λ c. (omega arith, omega arith, refl)) (λ c. omega arith) returns (λ c. omega arith) (λ c. omega arith) loop-again returns-2)
+    (tie.spec returns (λ c. search needs) returns-2 (λ c κs. search needs) (λ c κs. search needs) returns-3 (λ c κs. search needs) returns-4)

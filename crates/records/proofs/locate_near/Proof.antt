@@ -1,4 +1,4 @@
--- `records::locate` meets its contract: each scan begins where the one before stopped, and stops within the record.
+-- `records::locate_near` meets its contract: each scan begins where the one before stopped, and stops within the record.
 use Prim.Native.Nat.{_≤_}
 use mathlib.Core.Path.{_∙_}
 use native.Mathlib.Omega.{arith}
@@ -7,8 +7,8 @@ use denote.Ref.{now}
 use lib.ListN.{length}
 use Rattle.paper.specs.Sizes.{attribute-mark, value-mark, subvalue-mark}
 use Rattle.records.proofs.Laws.{skip-inside, spot-attribute, spot-value, spot-subvalue}
-use Rattle.records.proofs.locate.Statement.{statement}
-use Rattle.records.proofs.locate.Tie as tie
+use Rattle.records.proofs.locate_near.Statement.{statement}
+use Rattle.records.proofs.locate_near.Tie as tie
 
 -- where each scan stopped is inside the record
 first-inside : (c : tie.After-skip) → c .skip .result .at ≤ length (now (c .before .before .args .item))
@@ -42,8 +42,8 @@ returns-3 c =
     c .spot-at3 .ensures
     ∙ spot-subvalue (now (a .item)) (a .a) (a .v) (a .s) _ (at-skip .skip .ensures) (at-skip2 .before .if1 .left) _ (at-skip2 .skip2 .ensures) _ (at-skip3 .before .if2 .left) (at-skip3 .skip3 .ensures)
 
-pub locate-spec : {M : Type 1} → statement M
-locate-spec =
+pub locate-near-spec : {M : Type 1} → statement M
+locate-near-spec =
     tie.close
     (tie.spec
     (λ c κs. search needs)
