@@ -11,7 +11,7 @@ and-false : (t : Bool) → (t && false) ≡ false
 and-false true = refl
 and-false false = refl
 
-not-true : false ≡ true → ⊥
+pub not-true : false ≡ true → ⊥
 not-true e = let z : _≡_ {A = ℕ} 0 1 = cc in omega arith
 
 module _ (low high b : ℕ) where

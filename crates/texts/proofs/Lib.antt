@@ -1,4 +1,5 @@
 pub mod Classes
+pub mod Cases
 pub mod Writing
 pub mod Laws
 pub mod Fields

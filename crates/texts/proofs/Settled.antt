@@ -9,6 +9,8 @@ use Rattle.texts.proofs.admit.Reads as admit
 use Rattle.texts.proofs.group.Reads as group
 use Rattle.texts.proofs.hex.Reads as hex
 use Rattle.texts.proofs.unhex.Reads as unhex
+use Rattle.texts.proofs.letter.is_upper.Reads as is-upper
+use Rattle.texts.proofs.letter.is_lower.Reads as is-lower
 use Rattle.texts.proofs.letter.is_letter.Reads as is-letter
 use Rattle.texts.proofs.letter.is_digit.Reads as is-digit
 use Rattle.texts.proofs.letter.raise.Reads as raise
@@ -16,8 +18,8 @@ use Rattle.texts.proofs.letter.lower.Reads as lower
 use Rattle.texts.proofs.letter.is_mark.Reads as is-mark
 use Rattle.texts.proofs.part.index.Reads as index
 use Rattle.texts.proofs.hexit.digit.Reads as digit
+use Rattle.texts.proofs.hexit.is_other.Reads as is-other
 use Rattle.texts.proofs.hexit.value.Reads as value
-use Rattle.texts.proofs.hexit.pair.Reads as pair
 use Rattle.texts.proofs.hexit.byte.Reads as byte
 use Rattle.texts.proofs.part.front.Reads as front
 use Rattle.texts.proofs.part.after.Reads as after
@@ -53,6 +55,12 @@ unhex-settled : (κs : Lfts 2) → (a : _) (r r′ : _) (e e′ : _) → unhex.P
 unhex-settled κs a r r′ e e′ p q = same p q
 
 -- within the crate: an answer on one byte
+is-upper-settled : (κs : Lfts 0) → (a : _) (r r′ : _) (e e′ : _) → is-upper.Post κs a r e → is-upper.Post κs a r′ e′ → r ≡ r′
+is-upper-settled κs a r r′ e e′ p q = p ∙ sym q
+
+is-lower-settled : (κs : Lfts 0) → (a : _) (r r′ : _) (e e′ : _) → is-lower.Post κs a r e → is-lower.Post κs a r′ e′ → r ≡ r′
+is-lower-settled κs a r r′ e e′ p q = p ∙ sym q
+
 is-letter-settled : (κs : Lfts 0) → (a : _) (r r′ : _) (e e′ : _) → is-letter.Post κs a r e → is-letter.Post κs a r′ e′ → r ≡ r′
 is-letter-settled κs a r r′ e e′ p q = p ∙ sym q
 
@@ -74,11 +82,11 @@ index-settled κs a r r′ e e′ p q = p ∙ sym q
 digit-settled : (κs : Lfts 0) → (a : _) (r r′ : _) (e e′ : _) → digit.Post κs a r e → digit.Post κs a r′ e′ → r ≡ r′
 digit-settled κs a r r′ e e′ p q = p ∙ sym q
 
+is-other-settled : (κs : Lfts 0) → (a : _) (r r′ : _) (e e′ : _) → is-other.Post κs a r e → is-other.Post κs a r′ e′ → r ≡ r′
+is-other-settled κs a r r′ e e′ p q = p ∙ sym q
+
 value-settled : (κs : Lfts 0) → (a : _) (r r′ : _) (e e′ : _) → value.Post κs a r e → value.Post κs a r′ e′ → r ≡ r′
 value-settled κs a r r′ e e′ p q = p ∙ sym q
-
-pair-settled : (κs : Lfts 0) → (a : _) (r r′ : _) (e e′ : _) → pair.Post κs a r e → pair.Post κs a r′ e′ → r ≡ r′
-pair-settled κs a r r′ e e′ p q = p ∙ sym q
 
 byte-settled : (κs : Lfts 0) → (a : _) (r r′ : _) (e e′ : _) → byte.Post κs a r e → byte.Post κs a r′ e′ → r ≡ r′
 byte-settled κs a r r′ e e′ p q = p ∙ sym q

@@ -1,11 +1,11 @@
 -- A loop that writes an answer in front of a lent buffer, one byte a turn, and what the call then answers: one account for every such loop.
 use mathlib.Core.Path.{_≡_, refl, sym, ap, _∙_}
 use mathlib.Core.List.{[], _∷_, _++_, append-nil}
-use Prim.Native.Nat.{ℕ, _+_, _≤_, _<_, zero-le}
+use Prim.Native.Nat.{ℕ, _+_, _-_, _≤_, _<_, zero-le}
 use native.Mathlib.Numerals.{add-one}
 use native.Mathlib.Omega.{arith}
 use lib.ListN.{length, take, drop, set, length-append, length-set, take-append-drop}
-use lib.Seq.{length-take-le, take-suc-set, append-snoc, drop-set-lt, drop-drop}
+use lib.Seq.{length-take-le, take-suc-set, append-snoc, drop-set-lt, drop-drop, take-at}
 use borrow.Author.Tests.{le-leb, lt-leb}
 use Rattle.paper.specs.Bytes.{Bytes}
 use Rattle.paper.specs.Sizes.{entry-most}
@@ -68,11 +68,15 @@ module _ {held out : Bytes} {n : ℕ} {whole : Bytes} (p : Progress held out n [
   pub stands : out ≡ whole ++ drop (length whole) held
   stands = sym (take-append-drop n out) ∙ rw (wrote, p .behind, counted)
 
--- the answer of a call that has written all that it gives
-pub complete : {held out : Bytes} {n : ℕ} {whole : Bytes} → Progress held out n [] whole
-    → (Length n ≡ given-of (given whole)) × (out ≡ written held (given whole))
-unfolding given-of written
-complete p = (ap Length (counted p), stands p)
+-- n bytes in front of a buffer have their place there, and are what is taken of it
+module _ (held whole : Bytes) {out : Bytes} {n : ℕ} (told : n ≡ length whole) (stand : out ≡ written held (given whole)) where
+  pub in-front : n ≤ length out
+  unfolding written
+  in-front = omega (arith, ap length stand, length-append whole (drop (length whole) held))
+
+  pub front : take (n - 0) out ≡ whole
+  unfolding written
+  front = rw stand (take-at whole (drop (length whole) held) (n - 0) (omega arith))
 
 -- refusal 9: "element, entry or result over 1,024"
 pub entry-limit : entry-most ≡ 1_024
@@ -104,4 +108,5 @@ handed held whole fits e stand = rw (e, allowed whole fits) (refl, stand)
 
 pub answered : {held out : Bytes} {n : ℕ} {whole : Bytes} {r : Res Bytes} → Progress held out n [] whole → length whole ≤ entry-most → r ≡ given whole
     → (Length n ≡ given-of (limited entry-most r)) × (out ≡ written held (limited entry-most r))
-answered {whole = whole} p fits e = rw (e, allowed whole fits) (complete p)
+unfolding given-of written
+answered {whole = whole} p fits e = rw (e, allowed whole fits) (ap Length (counted p), stands p)

@@ -1,5 +1,5 @@
 -- What the private functions of this crate give, as scans over the bytes: proofs/ shows that they come to document 01's definitions.
-use Prim.Native.Nat.{ℕ, zero, suc, _+_, _*_}
+use Prim.Native.Nat.{ℕ, zero, suc, _+_, _*_, _/_, _%_}
 use mathlib.Core.Bool.{Bool, true, false}
 use mathlib.Core.List.{[], _∷_}
 use mathlib.Core.Option.{Option, none, some}
@@ -7,8 +7,6 @@ use lib.Dec.{eqb}
 use lib.ListN.{take, drop}
 use Rattle.paper.specs.Bytes.{Bytes}
 use Rattle.paper.specs.Texts.{hex-value}
-use Rattle.texts.specs.declared.hexit.Hex.{Hex}
-use Rattle.texts.specs.declared.hexit.Hex.the-variants.{Value, Other}
 
 -- a byte that is a separator or not, with n separators still to pass: the bytes up to the next one that counts
 abbrev pub ended : Bool → ℕ → (ℕ → ℕ) → ℕ
@@ -31,22 +29,20 @@ unfoldable pub first-fields : ℕ → ℕ → Bytes → Bytes
 first-fields x zero e = []
 first-fields x (suc n) e = take (field-end x n e) e
 
--- what hex digits stand for
-unfoldable pub hex-of : Option ℕ → Hex
-hex-of none = Other
-hex-of (some v) = Value v
+abbrev pub is-none : Option ℕ → Bool
+is-none none = true
+is-none (some v) = false
 
-unfoldable pub pair-value : Option ℕ → Option ℕ → Option ℕ
-pair-value (some h) (some l) = some (h * 16 + l)
-pair-value (some h) none = none
-pair-value none l = none
+-- a byte that is no hex digit
+unfoldable pub is-other : ℕ → Bool
+is-other b = is-none (hex-value b)
 
-unfoldable pub byte-or-zero : Option ℕ → ℕ
-byte-or-zero none = 0
-byte-or-zero (some b) = b
+-- what a byte stands for, where it is a hex digit
+abbrev pub worth : ℕ → ℕ
+worth b = (b % 16 + b / 64 * 9) % 16
 
 -- the bytes that pairs of hex digits spell, where every byte is a hex digit and their number is even
 unfoldable pub decoded : Bytes → Bytes
 decoded [] = []
 decoded (h ∷ []) = []
-decoded (h ∷ l ∷ bs) = byte-or-zero (pair-value (hex-value h) (hex-value l)) ∷ decoded bs
+decoded (h ∷ l ∷ bs) = (worth h * 16 + worth l) ∷ decoded bs

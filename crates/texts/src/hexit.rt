@@ -1,14 +1,10 @@
-// Hex digits: one, and the pair that spells a byte.
+// Hex digits: which bytes they are, what one stands for, and the pair that spells a byte.
+use crate::letter::is_digit;
 ghost use mathlib.Core.Path.{_≡_};
-ghost use Prim.Native.Nat.{_<_};
-ghost use Rattle.paper.specs.Texts.{hex-digit, hex-value};
-ghost use Rattle.texts.specs.Scans.{hex-of, pair-value, byte-or-zero};
-
-// What hex digits stand for; another byte is no hex digit.
-pub enum Hex {
-    Value(u8),
-    Other,
-}
+ghost use Prim.Native.Nat.{_<_, _+_, _*_};
+ghost use Rattle.paper.specs.Bytes.{within};
+ghost use Rattle.paper.specs.Texts.{hex-digit};
+ghost use Rattle.texts.specs.Scans.{is-other, worth};
 
 // "MX writes upper-case hex".
 pub fn digit(n: u8) -> u8
@@ -21,37 +17,41 @@ pub fn digit(n: u8) -> u8
     }
 }
 
-// "MY reads either case".
-pub fn value(b: u8) -> Hex
-    ensures { λ r. ⌜ r ≡ hex-of (hex-value b) ⌝ }
+fn is_capital(b: u8) -> bool
+    ensures { λ r. ⌜ r ≡ within 65 70 b ⌝ }
 {
     match b {
-        b'0'..=b'9' => Hex::Value(b - b'0'),
-        b'A'..=b'F' => Hex::Value(b - b'A' + 10),
-        b'a'..=b'f' => Hex::Value(b - b'a' + 10),
-        _ => Hex::Other,
+        b'A'..=b'F' => true,
+        _ => false,
     }
 }
 
-// The byte that two hex digits spell.
-pub fn pair(h: u8, l: u8) -> Hex
-    ensures { λ r. ⌜ r ≡ hex-of (pair-value (hex-value h) (hex-value l)) ⌝ }
+fn is_small(b: u8) -> bool
+    ensures { λ r. ⌜ r ≡ within 97 102 b ⌝ }
 {
-    let Hex::Value(high) = value(h) else {
-        return Hex::Other;
-    };
-    let Hex::Value(low) = value(l) else {
-        return Hex::Other;
-    };
-    Hex::Value(high * 16 + low)
+    match b {
+        b'a'..=b'f' => true,
+        _ => false,
+    }
 }
 
-// The same where the two are known to be hex digits.
-pub fn byte(h: u8, l: u8) -> u8
-    ensures { λ r. ⌜ r ≡ byte-or-zero (pair-value (hex-value h) (hex-value l)) ⌝ }
+// Whether a byte is no hex digit: "MY reads either case". No branch, so that a loop over it is compiled to SIMD.
+pub fn is_other(b: u8) -> bool
+    ensures { λ r. ⌜ r ≡ is-other b ⌝ }
 {
-    let Hex::Value(b) = pair(h, l) else {
-        return 0;
-    };
-    b
+    !(is_digit(b) | is_capital(b) | is_small(b))
+}
+
+// What a hex digit stands for: the low half of its byte, and 9 more for a letter.
+pub fn value(b: u8) -> u8
+    ensures { λ r. ⌜ r ≡ worth b ⌝ }
+{
+    (b % 16 + b / 64 * 9) % 16
+}
+
+// The byte that two hex digits spell.
+pub fn byte(h: u8, l: u8) -> u8
+    ensures { λ r. ⌜ r ≡ worth h * 16 + worth l ⌝ }
+{
+    value(h) * 16 + value(l)
 }

@@ -1,17 +1,33 @@
 // Letter classes (document 01: "Letters are ASCII") the case of one byte, and the marks.
 ghost use mathlib.Core.Path.{_≡_};
-ghost use Rattle.paper.specs.Bytes.{is-letter, is-digit};
+ghost use Rattle.paper.specs.Bytes.{is-upper, is-lower, is-letter, is-digit};
 ghost use Rattle.paper.specs.Sizes.{is-mark};
 ghost use Rattle.paper.specs.Texts.{raised, lowered};
 use paper::Mark;
 
+pub fn is_upper(b: u8) -> bool
+    ensures { λ r. ⌜ r ≡ is-upper b ⌝ }
+{
+    match b {
+        b'A'..=b'Z' => true,
+        _ => false,
+    }
+}
+
+pub fn is_lower(b: u8) -> bool
+    ensures { λ r. ⌜ r ≡ is-lower b ⌝ }
+{
+    match b {
+        b'a'..=b'z' => true,
+        _ => false,
+    }
+}
+
+// A match for each range, put together with no branch: so a loop over it is compiled to SIMD.
 pub fn is_letter(b: u8) -> bool
     ensures { λ r. ⌜ r ≡ is-letter b ⌝ }
 {
-    match b {
-        b'A'..=b'Z' | b'a'..=b'z' => true,
-        _ => false,
-    }
+    is_upper(b) | is_lower(b)
 }
 
 pub fn is_digit(b: u8) -> bool

@@ -4,14 +4,14 @@
 ghost use mathlib.Core.Path.{_≡_};
 ghost use Prim.Native.Nat.{_≤_};
 ghost use lib.ListN.{length};
-ghost use Rattle.paper.specs.Sizes.{entry-most};
-ghost use Rattle.paper.specs.Refusals.{given, refusal-of};
+ghost use Rattle.paper.specs.Bytes.{any};
+ghost use Rattle.paper.specs.Sizes.{entry-most, is-mark};
+ghost use Rattle.paper.specs.Refusals.{given};
 ghost use Rattle.paper.specs.Answers.{given-of, written};
 ghost use Rattle.paper.specs.Codes.{Plain};
-ghost use Rattle.paper.specs.Texts.{plain-gives};
 ghost use Rattle.paper.specs.Steps.{limited};
 ghost use Rattle.texts.specs.Codes.{outcome, kept-code, kept, cased-code, turned};
-ghost use Rattle.texts.specs.Scans.{decoded};
+ghost use Rattle.texts.specs.Scans.{is-other, decoded};
 use paper::Given;
 use paper::Limit;
 use paper::refusal;
@@ -47,7 +47,7 @@ fn keeps(class: Class, b: u8) -> bool
     }
 }
 
-// One byte in the case asked for.
+// One byte in the case asked for. The cases of a letter differ in the bit 32: set and cleared so, MCT is compiled to SIMD.
 fn turn(case: Casing, after_letter: bool, b: u8) -> u8
     ensures { λ r. ⌜ r ≡ turned case «after_letter» b ⌝ }
 {
@@ -55,10 +55,10 @@ fn turn(case: Casing, after_letter: bool, b: u8) -> u8
         Casing::Upper => letter::raise(b),
         Casing::Lower => letter::lower(b),
         Casing::Title => {
-            if after_letter {
-                letter::lower(b)
+            if letter::is_letter(b) {
+                if after_letter { b | 32 } else { b & 223 }
             } else {
-                letter::raise(b)
+                b
             }
         }
     }
@@ -169,29 +169,36 @@ pub fn hex(e: &[u8], out: &mut [u8]) -> Given
     Given::Length(n)
 }
 
-// The refusal of MY, 0 for none: 12 anywhere, before 13.
-fn unhex_refusal(e: &[u8]) -> u64
-    ensures { λ r. ⌜ r ≡ refusal-of (plain-gives Plain.unhex (now (e .entry))) ⌝ }
+// Whether a byte is there that is no hex digit. No early exit and no branch, so that it is compiled to SIMD.
+fn has_other(e: &[u8]) -> bool
+    ensures { λ r. ⌜ r ≡ any is-other (now (e .entry)) ⌝ }
 {
-    let mut marked = false;
+    let mut found = false;
     let mut i = 0;
-    while i + 1 < e.len() {
-        let hexit::Hex::Value(b) = hexit::pair(e[i], e[i + 1]) else {
-            return refusal::NOT_CONVERTIBLE;
-        };
-        marked = marked | letter::is_mark(b);
-        i += 2;
+    while i < e.len() {
+        found = found | hexit::is_other(e[i]);
+        i += 1;
     }
-    if i < e.len() {
-        return refusal::NOT_CONVERTIBLE;
-    }
-    if marked { refusal::MARK_FROM_HEX } else { 0 }
+    found
 }
 
-// The bytes that pairs of hex digits spell.
-fn decode(e: &[u8], out: &mut [u8]) -> Given
-    requires { ⌜ (length (now e) ≤ entry-most) × (entry-most ≤ length (now out)) ⌝ }
-    ensures { λ r. ⌜ r ≡ given-of (given (decoded (now (e .entry)))) ⌝ }
+// Whether a mark is there, in the same way.
+fn has_mark(e: &[u8]) -> bool
+    ensures { λ r. ⌜ r ≡ any is-mark (now (e .entry)) ⌝ }
+{
+    let mut found = false;
+    let mut i = 0;
+    while i < e.len() {
+        found = found | letter::is_mark(e[i]);
+        i += 1;
+    }
+    found
+}
+
+// The bytes that pairs of hex digits spell, in front of the output, and how many they are.
+fn decode(e: &[u8], out: &mut [u8]) -> usize
+    requires { ⌜ length (now e) ≤ length (now out) ⌝ }
+    ensures { λ r. ⌜ r ≡ length (decoded (now (e .entry))) ⌝ }
     ensures { λ _. ⌜ now (out .exit) ≡ written (now (out .entry)) (given (decoded (now (e .entry)))) ⌝ }
 {
     let mut i = 0;
@@ -201,18 +208,26 @@ fn decode(e: &[u8], out: &mut [u8]) -> Given
         n += 1;
         i += 2;
     }
-    Given::Length(n)
+    n
 }
 
-// MY: the whole element is read before the first byte is written, so that a refusal leaves the output as it was.
+// MY: 12 anywhere, before 13. The bytes are spelled beside the output, so that a refusal leaves the output as it was.
 pub fn unhex(e: &[u8], out: &mut [u8]) -> Given
     requires { ⌜ (length (now e) ≤ entry-most) × (entry-most ≤ length (now out)) ⌝ }
     ensures { λ r. ⌜ r ≡ given-of (outcome Plain.unhex (now (e .entry))) ⌝ }
     ensures { λ _. ⌜ now (out .exit) ≡ written (now (out .entry)) (outcome Plain.unhex (now (e .entry))) ⌝ }
 {
-    let number = unhex_refusal(e);
-    if number != 0 {
-        return Given::Refused(number);
+    if e.len() % 2 != 0 {
+        return Given::Refused(refusal::NOT_CONVERTIBLE);
     }
-    decode(e, out)
+    if has_other(e) {
+        return Given::Refused(refusal::NOT_CONVERTIBLE);
+    }
+    let mut spelled = [0u8; Limit::ENTRY];
+    let n = decode(e, &mut spelled);
+    let part = &spelled[0..n];
+    if has_mark(part) {
+        return Given::Refused(refusal::MARK_FROM_HEX);
+    }
+    give(part, out)
 }

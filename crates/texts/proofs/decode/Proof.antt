@@ -1,11 +1,12 @@
--- `decode` writes the byte that each pair spells. The loop's invariant: what the rest spells goes behind what is written. Assumes nothing.
+-- `decode` writes the byte that each pair spells, and counts them. The loop's invariant: what the rest spells goes behind what is written. Assumes nothing.
 use Prim.Native.Nat.{_≤_, _<_, _-_}
 use native.Mathlib.Omega.{arith}
 use lib.ListN.{length, drop}
 use borrow.Author.Needs.{needs}
+use Rattle.paper.specs.Answers.{written}
 use Rattle.texts.specs.Scans.{decoded}
 use Rattle.texts.proofs.Spelling.{decoded-next, decoded-none, decoded-fits}
-use Rattle.texts.proofs.Writing.{Progress, begun, room, put, onto, complete}
+use Rattle.texts.proofs.Writing.{Progress, begun, room, put, onto, counted, stands}
 use Rattle.texts.proofs.decode.Statement.{statement}
 use Rattle.texts.proofs.decode.Tie as tie
 
@@ -34,7 +35,10 @@ loop-again c =
     (omega arith, rw (c .byte .ensures) (put (onto (turn .before .loop .inv .1) (decoded-next _ _ (turn .loop-test .taken)))))
 
 returns : tie.Need-returns Inv-loop μ-loop
-returns c = complete (onto (c .before .loop .inv .1) (decoded-none _ _ (c .loop-test .left)))
+unfolding written
+returns c =
+    let p = onto (c .before .loop .inv .1) (decoded-none _ _ (c .loop-test .left)) in
+    (counted p, stands p)
 
 pub decode-spec : {M : Type 1} → statement M
 decode-spec =

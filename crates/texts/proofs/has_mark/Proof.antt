@@ -1,0 +1,43 @@
+-- `has_mark` tells whether a mark is there: the flag has what the bytes passed tell, and the rest tells the rest. Assumes nothing.
+use mathlib.Core.Path.{_≡_, refl}
+use mathlib.Core.Bool.{_||_}
+use Prim.Native.Nat.{_≤_, _-_}
+use native.Mathlib.Omega.{arith}
+use lib.ListN.{length, drop}
+use borrow.Author.Needs.{needs}
+use Rattle.paper.specs.Bytes.{any}
+use Rattle.paper.specs.Sizes.{is-mark}
+use Rattle.texts.proofs.Laws.{any-next, any-all}
+use Rattle.texts.proofs.has_mark.Statement.{statement}
+use Rattle.texts.proofs.has_mark.Tie as tie
+
+abbrev Inv-loop : tie.InvT-loop
+Inv-loop e found₀ i₀ found i = (i ≤ length e) × (any is-mark e ≡ found || any is-mark (drop i e))
+
+abbrev μ-loop : tie.MeasureT-loop
+μ-loop e found₀ i₀ found i = length e - i
+
+loop-again : tie.Need-loop-again Inv-loop μ-loop
+loop-again c =
+    let turn = c .before .before in
+    let at = turn .before .loop in
+    (omega arith, rw (c .is-mark .ensures) (any-next is-mark _ (at .found) (at .i) (at .inv .1) (turn .loop-test .taken)))
+
+returns : tie.Need-returns Inv-loop μ-loop
+returns c =
+    let at = c .before .loop in
+    any-all is-mark _ (at .found) (at .i) (at .inv .1) (c .loop-test .left)
+
+pub has-mark-spec : {M : Type 1} → statement M
+has-mark-spec =
+    tie.close
+    (tie.spec
+    Inv-loop
+    μ-loop
+    (λ c. (omega arith, refl))
+    (λ c. omega arith)
+    (λ c κs. search needs)
+    (λ c. omega arith)
+    (λ c. omega arith)
+    loop-again
+    returns)
