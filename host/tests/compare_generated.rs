@@ -116,10 +116,20 @@ fn check() {
     coverage.require("check", &[5, 6, 7], &STEPS);
 }
 
+/// Converting, in two shares: they are most of the work, and run side by side.
 #[test]
 fn convert() {
+    convert_share("convert", 4, 23);
+}
+
+#[test]
+fn convert_more() {
+    convert_share("convert, more", 7, 22);
+}
+
+fn convert_share(name: &'static str, call: u64, percent: u64) {
     let mut both = Both::default();
-    let coverage = cases(USUAL_CASES, "convert", 4, 45, |rng, coverage| {
+    let coverage = cases(USUAL_CASES, name, call, percent, |rng, coverage| {
         let call = generator::convert(rng, &mut both.paper);
         let outcome = both.convert(&call, call.budget);
         laws::convert(&call, call.budget, &outcome, &both.proved);
