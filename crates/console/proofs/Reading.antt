@@ -13,8 +13,10 @@ use Rattle.paper.specs.Bytes.{Bytes, if_then_else_, within}
 use Rattle.paper.specs.Records.{opened, split, nth, first-of}
 use Rattle.paper.specs.Grammar.{all-read}
 use Rattle.paper.specs.Program.{or-empty, line, program-reads, address-form, answered, program}
-use Rattle.records.specs.Scan.{range, upto}
-use Rattle.records.proofs.Laws.{not-within, within-next, upto-mark, take-upto}
+use Rattle.lent.specs.Scan.{range, upto}
+use Rattle.paper.proofs.Ranges.{within-one}
+use Rattle.lent.proofs.Scans.{range-rest, length-upto}
+use Rattle.records.proofs.Laws.{upto-mark, take-upto}
 
 -- the k-th line of these bytes, empty where it is missing
 abbrev pub line-of : ℕ → Bytes → Bytes
@@ -34,7 +36,7 @@ first-line bs = go (split 10 bs) ∙ sym (upto-mark 10 bs)
 
 module _ (m : ℕ) where
   ends : (b : ℕ) (u : Bool) → eqb b m ≡ u → within m m b ≡ u
-  ends b u e = within-next m m b false u (le-refl m) (not-within (suc m) m b (within (suc m) m b) refl (λ l k. omega arith)) e
+  ends b u e = within-one m b ∙ e
 
   later-opened : (k b : ℕ) (ps : List Bytes) → nth (suc k) (opened false b ps) ≡ nth (suc k) ps
   unfolding nth
@@ -56,16 +58,12 @@ module _ (m : ℕ) where
 
 -- the line at a place: its end, and its bytes
 module _ (text : Bytes) (from : ℕ) (h : from ≤ length text) where
-  rest-is : range text from (length text) ≡ drop from text
-  unfolding range
-  rest-is = take-all (length text - from) (drop from text) (omega (arith, length-drop from text))
-
   pub end-is : {end : ℕ} → end ≡ from + length (upto 10 10 (range text from (length text))) → end ≡ from + length (upto-end (drop from text))
-  end-is e = e ∙ ap (λ (l : Bytes). from + length (upto 10 10 l)) rest-is
+  end-is e = e ∙ ap (λ (l : Bytes). from + length (upto 10 10 l)) (range-rest text from)
 
   module _ {end : ℕ} (e : end ≡ from + length (upto-end (drop from text))) where
     shorter : length (upto-end (drop from text)) ≤ length (drop from text)
-    shorter = omega (arith, ap length (take-upto 10 10 (drop from text)), length-take (length (upto-end (drop from text))) (drop from text))
+    shorter = length-upto 10 10 (drop from text)
 
     pub end-inside : (from ≤ end) × (end ≤ length text)
     end-inside = let s = shorter in omega (arith, length-drop from text)

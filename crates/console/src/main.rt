@@ -14,7 +14,7 @@ ghost use Rattle.paper.specs.Sizes.{number-digits, number-most, record-most};
 ghost use Rattle.paper.specs.Grammar.{all-read};
 ghost use Rattle.paper.specs.Program.{drawn, program, program-reads, answered, address-form};
 ghost use Rattle.lent.specs.Over.{over};
-ghost use Rattle.records.specs.Scan.{upto};
+ghost use Rattle.lent.specs.Scan.{upto};
 ghost use Rattle.console.specs.Lines.{numbered, shown, line-most};
 
 // "only 65,536 bytes are read"

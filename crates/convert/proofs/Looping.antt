@@ -14,8 +14,10 @@ use Rattle.paper.specs.Sizes.{entry-most, record-most, position-most, value-mar
 use Rattle.paper.specs.Refusals.{Res, given, refused, answer-of, over-budget}
 use Rattle.paper.specs.Steps.{Run, done, stop, step}
 use Rattle.paper.specs.Converting.{Outcome, within-budget}
-use Rattle.records.specs.Scan.{range, upto}
-use Rattle.records.proofs.Laws.{take-upto, length-upto, within-in}
+use Rattle.lent.specs.Scan.{range, upto}
+use Rattle.paper.proofs.Ranges.{within-true}
+use Rattle.lent.proofs.Scans.{range-rest, length-upto}
+use Rattle.records.proofs.Laws.{take-upto}
 use Rattle.machine.specs.Slots.{Slotted}
 use Rattle.convert.specs.Gather.{gathered-in, Holds-answer, walks, walked-of}
 use Rattle.convert.specs.Walk.{walked}
@@ -50,12 +52,8 @@ budget-kept (step cost r) budget so-far h = go (leb (so-far + cost) budget) refl
 -- where the first element of the bytes from `at` on ends
 module _ (text : Bytes) (at end : ℕ) (inside : at ≤ length text)
     (ends : end ≡ at + length (upto subvalue-mark value-mark (range text at (length text)))) where
-  range-rest : range text at (length text) ≡ drop at text
-  unfolding range
-  range-rest = take-all (length text - at) (drop at text) (omega (arith, length-drop at text))
-
   pub end-is : end ≡ at + length (first-text (drop at text))
-  end-is = ends ∙ ap (λ (b : Bytes). at + length (upto subvalue-mark value-mark b)) range-rest
+  end-is = ends ∙ ap (λ (b : Bytes). at + length (upto subvalue-mark value-mark b)) (range-rest text at)
 
   pub end-inside : (at ≤ end) × (end ≤ length text)
   end-inside = (omega (arith, end-is), omega (arith, end-is, length-upto subvalue-mark value-mark (drop at text), length-drop at text))
@@ -89,7 +87,7 @@ upto-stops (c ∷ bs) b more e = stops-at c bs b more (within subvalue-mark valu
 
 other-mark : (b : ℕ) → within subvalue-mark value-mark b ≡ true → eqb b value-mark ≡ false → b ≡ subvalue-mark
 other-mark b w n =
-    let bounds = within-in subvalue-mark value-mark b (leb subvalue-mark b) (leb b value-mark) refl refl w in
+    let bounds = within-true subvalue-mark value-mark b w in
     omega (arith, bounds .0, bounds .1, eqb-false b value-mark n)
 
 outcome-as : (o : Outcome) (a : Res Bytes) → o .answer ≡ a → o ≡ record { answer = a; steps = o .steps }

@@ -10,7 +10,7 @@ use native.Mathlib.Decide.{decLe}
 use borrow.Author.Tests.{eqb-true, eqb-false, le-leb, lt-leb}
 use lib.ListN.{length, drop}
 use Rattle.paper.specs.Bytes.{Bytes, if_then_else_, within}
-use Rattle.records.specs.Scan.{upto}
+use Rattle.lent.specs.Scan.{upto}
 use Rattle.paper.specs.Sizes.{attribute-mark, value-mark, subvalue-mark}
 use Rattle.paper.specs.Records.{opened, split, Part, placed, pieces, nth, and-then, path, part-at, whole, place, reads, text-or-empty}
 use Rattle.paper.proofs.Predicates.{All, none-of, and-all, all-both}

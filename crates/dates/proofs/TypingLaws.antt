@@ -1,7 +1,7 @@
 -- The readers of a typed date, piece by piece: each is what its first digit, letter or separator decides. Assumes nothing.
 use Prim.Native.Nat.{ℕ, zero, suc, _+_, _-_, _*_, _≤_, _<_}
 use mathlib.Core.Path.{_≡_, refl, _∙_, ap}
-use mathlib.Core.Bool.{Bool, true, false, and-false}
+use mathlib.Core.Bool.{Bool, true, false}
 use mathlib.Core.List.{[], _∷_}
 use mathlib.Core.Option.{Option, none, some}
 use native.Mathlib.Numerals.{add-one}
@@ -12,6 +12,7 @@ use lib.Dec.{leb}
 use borrow.Author.Tests.{le-leb, lt-leb, lt-ltb, eq-eqb, ne-eqb}
 use Rattle.paper.specs.Bytes.{Bytes, if_then_else_, is-digit, is-lower, digit-value}
 use Rattle.paper.specs.Texts.{raised}
+use Rattle.paper.proofs.Ranges.{within-yes, within-below, within-above}
 use Rattle.paper.specs.Grammar.{Reader, follow, all-read, ahead, this, numeral, more-digits}
 use Rattle.dates.specs.declared.Read.{Read}
 use Rattle.dates.specs.declared.Read.the-variants.{Nothing, Found}
@@ -49,15 +50,15 @@ within-more text (Found value next) h w = (omega arith, w .1)
 -- the bytes that are digits, and those below and above them
 digit-within : (b : ℕ) → 48 ≤ b → b ≤ 57 → is-digit b ≡ true
 unfolding is-digit
-digit-within b h k = simp (le-leb 48 b h, le-leb b 57 k)
+digit-within b h k = within-yes 48 57 b h (omega arith)
 
 digit-below : (b : ℕ) → b < 48 → is-digit b ≡ false
 unfolding is-digit
-digit-below b h = simp (lt-leb 48 b h)
+digit-below b h = within-below 48 57 b h
 
 digit-above : (b : ℕ) → 57 < b → is-digit b ≡ false
 unfolding is-digit
-digit-above b h = simp (lt-leb b 57 h, and-false)
+digit-above b h = within-above 48 57 b h
 
 -- a digit at a place, and its lack
 pub further-end : (n : ℕ) (text : Bytes) (at : ℕ) → at ≡ length text → further n (drop at text) ≡ none
@@ -169,15 +170,15 @@ early-century y h = rw (lt-leb 30 y h)
 -- "in either case"
 pub raise-small : (b : ℕ) → 97 ≤ b → b ≤ 122 → b - 32 ≡ raised b
 unfolding raised is-lower
-raise-small b h k = rw (le-leb 97 b h, le-leb b 122 k)
+raise-small b h k = rw (within-yes 97 122 b h (omega arith))
 
 pub raise-below : (b : ℕ) → b < 97 → b ≡ raised b
 unfolding raised is-lower
-raise-below b h = rw (lt-leb 97 b h)
+raise-below b h = rw (within-below 97 122 b h)
 
 pub raise-above : (b : ℕ) → 122 < b → b ≡ raised b
 unfolding raised is-lower
-raise-above b h = rw (lt-leb b 122 h, and-false)
+raise-above b h = rw (within-above 97 122 b h)
 
 -- the answers of `parted`
 pub parting-end : (s value : ℕ) (text : Bytes) (next : ℕ) → next ≡ length text → parting s value (drop next text) ≡ none

@@ -21,7 +21,7 @@ use Rattle.codes.specs.declared.Elm.{Elm}
 use Rattle.codes.specs.declared.Plain.{Plain}
 use Rattle.grammar.specs.Places.{Peeked, flag, digit, numeral, num}
 use Rattle.grammar.specs.Reading.{separates, separator, group-after, group-code, extract-from, extract-code, admit-from, length-after, length-code, scales, fill-field, fill-byte, fill-width, credit-letter, fill-part, mask-code, date-after, date-code, repeats, attribute-elm, closing, placed-literal, literal-elm, previous-elm, multiply-elm, conversion, converting-elm, longer-elm, elm}
-use Rattle.grammar.proofs.Bytes.{within-yes, within-below, within-above}
+use Rattle.paper.proofs.Ranges.{within-yes, within-below, within-above}
 use Rattle.grammar.proofs.Taken.{chosen, missed, this-yes, this-no}
 
 -- `G{num}x num`
@@ -121,11 +121,11 @@ module _ (s : Bytes) (at : ℕ) where
 
   pub field-open : (fill v n b m : ℕ) → num s at ≡ some (v, n) → (v ≡ 0 → ⊥) → v ≤ 99 → Peeked s n b m → (b ≡ 41 → ⊥) → fill-field fill s at ≡ none
   unfolding fill-field
-  field-open fill v n b m e z h p k = rw (e, within-yes 1 99 v (omega arith) h, this-no {c = 41} p k)
+  field-open fill v n b m e z h p k = rw (e, within-yes 1 99 v (omega arith) (omega arith), this-no {c = 41} p k)
 
   pub field-read : (fill v n b m : ℕ) → num s at ≡ some (v, n) → (v ≡ 0 → ⊥) → v ≤ 99 → Peeked s n b m → b ≡ 41 → fill-field fill s at ≡ some (Fill.Field fill v, m)
   unfolding fill-field
-  field-read fill v n b m e z h p k = rw (e, within-yes 1 99 v (omega arith) h, this-yes {c = 41} p k)
+  field-read fill v n b m e z h p k = rw (e, within-yes 1 99 v (omega arith) (omega arith), this-yes {c = 41} p k)
 
   pub width-by : (fill n : ℕ) → fill-byte s at ≡ some (fill, n) → fill-width s at ≡ fill-field fill s n
   unfolding fill-width

@@ -1,53 +1,69 @@
--- The two scans of a code's bytes, turn by turn: whether a mark is there, and where the code ends.
-use Prim.Native.Nat.{ℕ, _<_, _≤_, _+_}
+-- The two scans of a code string: where a code ends, and that up to the first mark it has none.
+use Prim.Native.Nat.{ℕ, zero, suc, _<_, _≤_, _+_, _-_}
 use mathlib.Core.Path.{_≡_, refl, sym, ap, _∙_}
-use mathlib.Core.Bool.{Bool, true, false, _||_, or-assoc, and-true}
-use mathlib.Core.List.{_∷_}
-use lib.ListN.{length, getD, drop, drop-of-length-le}
-use lib.Seq.{drop-cons}
-use lib.Dec.{leb}
-use native.Mathlib.Numerals.{add-one}
+use mathlib.Core.Bool.{Bool, true, false, true≢false, _||_}
+use mathlib.Core.Logic.{_⊎_, inl, inr}
+use mathlib.Core.List.{[], _∷_}
+use lib.ListN.{length, getD, take, drop}
+use lib.Dec.{eqb}
 use native.Mathlib.Omega.{arith}
-use borrow.Author.Tests.{le-leb, ne-eqb}
-use mir.Val.{Fits}
-use mir.Syntax.{w8}
-use Rattle.paper.specs.Bytes.{Bytes, any}
+use borrow.Author.Tests.{eq-eqb, ne-eqb}
+use Rattle.paper.specs.Bytes.{Bytes, any, within, if_then_else_}
 use Rattle.paper.specs.Sizes.{is-mark}
+use Rattle.lent.specs.Scan.{upto}
+use Rattle.lent.proofs.Scans.{length-upto}
 use Rattle.grammar.specs.Checking.{code-end}
+use Rattle.paper.proofs.Ranges.{within-yes, within-one}
 
-here : (s : Bytes) (i : ℕ) → i < length s → drop i s ≡ getD s i 0 ∷ drop (i + 1) s
-here s i h = drop-cons s i 0 h ∙ ap (λ (k : ℕ). getD s i 0 ∷ drop k s) (sym (add-one i))
+-- a code ends at the first byte 253
+pub end-upto : (bs : Bytes) (at : ℕ) → code-end bs at ≡ at + length (upto 253 253 bs)
+unfolding code-end upto
+end-upto [] at = omega arith
+end-upto (b ∷ bs) at = rw (within-one 253 b) (go (end-upto bs (suc at)) (eqb b 253))
+  where
+    go : code-end bs (suc at) ≡ suc at + length (upto 253 253 bs) → (t : Bool) → (if t then at else code-end bs (suc at)) ≡ at + length (if t then [] else (b ∷ upto 253 253 bs))
+    go ih true = omega arith
+    go ih false = omega arith
 
-or-false : (x : Bool) → (x || false) ≡ x
-or-false true = refl
-or-false false = refl
+-- byte 253 is a mark
+no-value : (b : ℕ) → within 251 255 b ≡ false → eqb b 253 ≡ false
+no-value b e = ne-eqb b 253 (λ z. let f : b ≡ 253 = z in true≢false (sym (within-yes 251 255 b (omega arith) (omega arith)) ∙ e))
 
--- a byte is a mark if it is 251 or more
-pub mark-byte : (b : ℕ) → Fits w8 b → leb 251 b ≡ is-mark b
-unfolding is-mark
-mark-byte b f = simp (le-leb b 255 (omega arith)) (sym (and-true (leb 251 b)))
+-- the bytes before the first mark
+abbrev pub clear : Bytes → ℕ
+clear bs = length (upto 251 255 bs)
 
-module _ (p : ℕ → Bool) (s : Bytes) (bad : Bool) (i : ℕ) (e : any p s ≡ bad || any p (drop i s)) where
-  pub any-more : (hit : Bool) → i < length s → hit ≡ p (getD s i 0) → any p s ≡ bad || hit || any p (drop (i + 1) s)
-  unfolding any
-  any-more hit h f =
-      e ∙ ap (λ (l : Bytes). bad || any p l) (here s i h) ∙ ap (λ (t : Bool). bad || (t || any p (drop (i + 1) s))) (sym f)
-      ∙ sym (or-assoc bad hit (any p (drop (i + 1) s)))
+pub clear-fits : (bs : Bytes) → clear bs ≤ length bs
+clear-fits bs = length-upto 251 255 bs
 
-  pub any-all : length s ≤ i → bad ≡ any p s
-  unfolding any
-  any-all h = sym (e ∙ ap (λ (l : Bytes). bad || any p l) (drop-of-length-le s h) ∙ or-false bad)
+-- where that mark is byte 253, or there is none, it ends the code, which has no mark
+pub clear-code : (bs : Bytes) (at : ℕ) → (clear bs ≡ length bs) ⊎ (getD bs (clear bs) 0 ≡ 253) → (code-end bs at ≡ at + clear bs) × (any is-mark (take (clear bs) bs) ≡ false)
+unfolding code-end upto any is-mark
+clear-code [] at p = (omega arith, refl)
+clear-code (b ∷ bs) at p = go (clear-code bs (suc at)) (within 251 255 b) refl p
+  where
+    go : ((clear bs ≡ length bs) ⊎ (getD bs (clear bs) 0 ≡ 253) → (code-end bs (suc at) ≡ suc at + clear bs) × (any is-mark (take (clear bs) bs) ≡ false))
+        → (t : Bool) → within 251 255 b ≡ t → (length (if t then [] else (b ∷ upto 251 255 bs)) ≡ suc (length bs)) ⊎ (getD (b ∷ bs) (length (if t then [] else (b ∷ upto 251 255 bs))) 0 ≡ 253)
+        → ((if eqb b 253 then at else code-end bs (suc at)) ≡ at + length (if t then [] else (b ∷ upto 251 255 bs))) × (any is-mark (take (length (if t then [] else (b ∷ upto 251 255 bs))) (b ∷ bs)) ≡ false)
+    go ih true e (inl n) = absurd (omega arith)
+    go ih true e (inr v) = (rw (eq-eqb b 253 v) (omega arith), refl)
+    go ih false e (inl n) = let r = ih (inl (omega arith)) in (rw (no-value b e) (omega (arith, r .0)), rw e (r .1))
+    go ih false e (inr v) = let r = ih (inr v) in (rw (no-value b e) (omega (arith, r .0)), rw e (r .1))
 
--- a code's end: here, further on, and with the bytes
-module _ (s : Bytes) (at : ℕ) where
-  pub end-here : at < length s → getD s at 0 ≡ 253 → code-end (drop at s) at ≡ at
-  unfolding code-end
-  end-here h e = rw (drop-cons s at 0 h, e)
+-- where it is another, the code has it
+pub stray-code : (bs : Bytes) (at : ℕ) → clear bs < length bs → (getD bs (clear bs) 0 ≡ 253 → ⊥) → any is-mark (take (code-end bs at - at) bs) ≡ true
+unfolding code-end upto any is-mark
+stray-code [] at h k = absurd (omega arith)
+stray-code (b ∷ bs) at h k = go (stray-code bs (suc at)) (within 251 255 b) refl h k
+  where
+    taken : (n : ℕ) → suc at ≤ n → take (n - at) (b ∷ bs) ≡ b ∷ take (n - suc at) bs
+    taken n l = let e : n - at ≡ suc (n - suc at) = omega arith in ap (λ (i : ℕ). take i (b ∷ bs)) e
 
-  pub end-on : at < length s → (getD s at 0 ≡ 253 → ⊥) → code-end (drop at s) at ≡ code-end (drop (at + 1) s) (at + 1)
-  unfolding code-end
-  end-on h k = rw (drop-cons s at 0 h, ne-eqb (getD s at 0) 253 k, add-one)
+    later : suc at ≤ code-end bs (suc at)
+    later = omega (arith, end-upto bs (suc at))
 
-  pub end-last : length s ≤ at → code-end (drop at s) at ≡ at
-  unfolding code-end
-  end-last h = rw (drop-of-length-le s h)
+    go : (clear bs < length bs → (getD bs (clear bs) 0 ≡ 253 → ⊥) → any is-mark (take (code-end bs (suc at) - suc at) bs) ≡ true)
+        → (t : Bool) → within 251 255 b ≡ t → length (if t then [] else (b ∷ upto 251 255 bs)) < suc (length bs) → (getD (b ∷ bs) (length (if t then [] else (b ∷ upto 251 255 bs))) 0 ≡ 253 → ⊥)
+        → any is-mark (take ((if eqb b 253 then at else code-end bs (suc at)) - at) (b ∷ bs)) ≡ true
+    go ih true e l n = rw (ne-eqb b 253 n, taken (code-end bs (suc at)) later, e)
+    go ih false e l n = rw (no-value b e, taken (code-end bs (suc at)) later, e) (ih (omega arith) n)

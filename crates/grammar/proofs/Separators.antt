@@ -1,7 +1,7 @@
 -- The classes of bytes that part fields and dates, by the arm of the `match` that the byte took.
 use Prim.Native.Nat.{ℕ, _<_, _≤_}
 use mathlib.Core.Path.{_≡_, refl}
-use mathlib.Core.Bool.{Bool, true, false, not, _||_}
+use mathlib.Core.Bool.{Bool, true, false, not, _||_, or-false}
 use mathlib.Core.Logic.{⊎-elim}
 use native.Mathlib.Omega.{arith}
 use borrow.Author.Tests.{ne-eqb}
@@ -9,7 +9,7 @@ use Rattle.paper.specs.Bytes.{is-digit, is-letter, is-upper, is-lower}
 use Rattle.paper.specs.Grammar.{is-separator}
 use Rattle.paper.specs.Sizes.{is-mark}
 use Rattle.grammar.specs.Reading.{separates}
-use Rattle.grammar.proofs.Bytes.{ltb-or, within-yes, within-below, within-above}
+use Rattle.paper.proofs.Ranges.{ltb-or, within-yes, within-below, within-above}
 
 pub separates-digit : (b : ℕ) → 48 ≤ b → b < 58 → false ≡ separates b
 unfolding separates is-digit is-mark
@@ -17,7 +17,7 @@ separates-digit b l u = simp (within-yes 48 57 b l (omega arith))
 
 pub separates-mark : (b : ℕ) → 251 ≤ b → b ≤ 255 → false ≡ separates b
 unfolding separates is-digit is-mark
-separates-mark b l u = simp (within-above 48 57 b (omega arith), within-yes 251 255 b l u)
+separates-mark b l u = simp (within-above 48 57 b (omega arith), within-yes 251 255 b l (omega arith))
 
 pub separates-low : (b : ℕ) → b < 48 → true ≡ separates b
 unfolding separates is-digit is-mark
@@ -75,10 +75,6 @@ parts-below b u = simp (within-below 32 126 b u)
 pub parts-above : (b : ℕ) → 127 ≤ b → false ≡ is-separator b
 unfolding is-separator
 parts-above b l = simp (within-above 32 126 b (omega arith))
-
-or-false : (x : Bool) → (x || false) ≡ x
-or-false true = refl
-or-false false = refl
 
 -- a byte 32 to 126, none of the three
 between : (b : ℕ) → 32 ≤ b → b < 127 → (b ≡ 40 → ⊥) → (b ≡ 41 → ⊥) → (b ≡ 59 → ⊥) → (r : Bool) → r ≡ (is-letter b || is-digit b) → not r ≡ is-separator b

@@ -1,25 +1,30 @@
 -- A code string from code to code: what is left is the code that begins here and what is left after it.
 use Prim.Native.Nat.{ℕ, suc, _<_, _≤_, _+_, _-_}
 use mathlib.Core.Path.{_≡_, refl, sym, ap, _∙_}
-use mathlib.Core.Bool.{Bool, true, false}
-use mathlib.Core.Logic.{⊎-elim}
+use mathlib.Core.Bool.{Bool, true, false, true≢false, not, _&&_}
+use mathlib.Core.Logic.{_⊎_, inl, inr, ⊎-elim}
 use mathlib.Core.List.{List, [], _∷_}
-use lib.ListN.{length, take, drop, length-drop}
-use lib.Seq.{take-all, drop-drop}
-use lib.Dec.{eqb}
+use lib.ListN.{length, take, drop, getD, length-drop}
+use lib.Seq.{take-all, drop-drop, getD-drop}
+use lib.Dec.{eqb, leb}
 use native.Mathlib.Nat.{zero-add, add-zero, add-assoc}
 use native.Mathlib.Numerals.{add-one}
 use native.Mathlib.Omega.{arith}
-use borrow.Author.Tests.{le-leb, lt-leb}
-use Rattle.paper.specs.Bytes.{Bytes, if_then_else_}
+use borrow.Author.Tests.{le-leb, lt-leb, leb-true, leb-false, eqb-true, eqb-false}
+use Rattle.paper.specs.Bytes.{Bytes, if_then_else_, any}
+use Rattle.paper.specs.Sizes.{is-mark}
 use Rattle.paper.specs.Records.{opened, split}
 use Rattle.paper.specs.Refusals.{Res, given, refused}
 use Rattle.paper.specs.Codes as codes
 use Rattle.paper.specs.Checking.{judged, judged-all, in-front, code-texts, check, Checked, accepted, faulty, code-count, codes-count, attribute-loads, other-steps, report}
-use Rattle.grammar.specs.Checking.{judged-of, code-end, tallied, verdict-of, report-in}
+use Rattle.lent.specs.Scan.{range, upto}
+use Rattle.grammar.specs.Checking.{judged-of, code-end, stray, tallied, verdict-of, report-in}
 use Rattle.grammar.specs.declared.Judged.{Judged}
 use Rattle.grammar.specs.declared.Verdict.{Verdict}
-use Rattle.grammar.proofs.Bytes.{ltb-or}
+use Rattle.paper.proofs.Ranges.{ltb-or}
+use Rattle.lent.proofs.Scans.{range-rest}
+use Rattle.grammar.proofs.Scans.{clear, clear-fits, clear-code, stray-code}
+use Rattle.grammar.proofs.Judging.{judged-marked}
 
 -- these bytes are one code, or a byte 253 parts them
 data Cut (bs : Bytes) (at end : ℕ) (pieces : List Bytes) : Type 0 where
@@ -138,6 +143,37 @@ module _ (s : Bytes) (at l o k : ℕ) (h : at ≤ length s) {end : ℕ} (e : end
 
   pub turn-more : (a b : ℕ) → r ≡ Judged.Lawful a b → (end ≡ length s → ⊥) → left ≡ tallied (l + a) (o + b) (judged-all (k + 1) (split 253 (drop (end + 1) s)))
   turn-more a b g j = turned _ (split-more s at h e j) ∙ tallied-more l o k (take (end - at) (drop at s)) f (split 253 (drop (end + 1) s)) a b g
+
+-- The same by the first mark from `at` on, which is at `end`: the code is all before it, unless it is a mark that no code has.
+module _ (s : Bytes) (at : ℕ) (h : at ≤ length s) {end : ℕ} (e : end ≡ at + length (upto 251 255 (range s at (length s)))) where
+  first-mark : end ≡ at + clear (drop at s)
+  first-mark = e ∙ ap (λ (l : Bytes). at + clear l) (range-rest s at)
+
+  mark-there : getD (drop at s) (clear (drop at s)) 0 ≡ getD s end 0
+  mark-there = getD-drop at s (clear (drop at s)) 0 ∙ ap (λ (k : ℕ). getD s k 0) (sym first-mark)
+
+  pub marks-clear : stray s end ≡ false → (end ≡ code-end (drop at s) at) × (any is-mark (take (end - at) (drop at s)) ≡ false)
+  unfolding stray
+  marks-clear x =
+      let r = clear-code (drop at s) at (told (leb (length s) end) (eqb (getD s end 0) 253) refl refl x) in
+      let k : end - at ≡ clear (drop at s) = omega (arith, first-mark) in
+      (first-mark ∙ sym (r .0), ap (λ (n : ℕ). any is-mark (take n (drop at s))) k ∙ r .1)
+    where
+      told : (t u : Bool) → leb (length s) end ≡ t → eqb (getD s end 0) 253 ≡ u → not t && not u ≡ false → (clear (drop at s) ≡ length (drop at s)) ⊎ (getD (drop at s) (clear (drop at s)) 0 ≡ 253)
+      told true u et eu z = inl (omega (arith, leb-true (length s) end et, clear-fits (drop at s), length-drop at s, first-mark))
+      told false true et eu z = inr (mark-there ∙ eqb-true (getD s end 0) 253 eu)
+      told false false et eu z = absurd (true≢false z)
+
+  pub marks-stray : (l o k : ℕ) → stray s end ≡ true → tallied l o (judged-all k (split 253 (drop at s))) ≡ Verdict.Refused 6 k
+  unfolding stray
+  marks-stray l o k x = told (leb (length s) end) (eqb (getD s end 0) 253) refl refl x
+    where
+      told : (t u : Bool) → leb (length s) end ≡ t → eqb (getD s end 0) 253 ≡ u → not t && not u ≡ true → tallied l o (judged-all k (split 253 (drop at s))) ≡ Verdict.Refused 6 k
+      told true u et eu z = absurd (true≢false (sym z))
+      told false true et eu z = absurd (true≢false (sym z))
+      told false false et eu z =
+          let m = stray-code (drop at s) at (omega (arith, leb-false (length s) end et, length-drop at s, first-mark)) (λ v. eqb-false (getD s end 0) 253 eu (sym mark-there ∙ v)) in
+          turn-fault s at l o k h refl (judged-marked (take (code-end (drop at s) at - at) (drop at s)) m) 6 refl
 
 pub turns-start : (s : Bytes) → tallied 0 0 (judged-all 1 (split 253 (drop 0 s))) ≡ verdict-of (judged-all 1 (split 253 s))
 turns-start s = tallied-start (judged-all 1 (split 253 s))

@@ -22,7 +22,7 @@ use Rattle.grammar.specs.declared.ReadNum.{ReadNum}
 use Rattle.grammar.specs.declared.ReadFill.{ReadFill}
 use Rattle.grammar.specs.declared.ReadConversion.{ReadConversion}
 use Rattle.grammar.specs.declared.ReadElm.{ReadElm}
-use Rattle.grammar.proofs.Bytes.{ltb-or, within-yes, within-below, within-above}
+use Rattle.paper.proofs.Ranges.{ltb-or, within-yes, within-below, within-above}
 
 -- the reader that a byte names, and whether it names one
 abbrev pub picked : {A : Type 0} → List (ℕ × Placed A) → ℕ → Placed A

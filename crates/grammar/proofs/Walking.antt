@@ -22,7 +22,7 @@ use Rattle.grammar.specs.Places.{byte-at, after}
 use Rattle.grammar.specs.Reading as place
 use Rattle.grammar.specs.Checking.{head, elms-from, code-end}
 use Rattle.grammar.specs.declared.Head.{Head}
-use Rattle.grammar.proofs.Bytes.{ltb-or}
+use Rattle.paper.proofs.Ranges.{ltb-or}
 use Rattle.grammar.proofs.Parted.{elm-onto, elm-within, elms-none, elms-last, elms-more, elms-stray}
 use Rattle.grammar.proofs.Judging.{functioned, read-by, head-reads, head-first}
 use Rattle.grammar.proofs.Strings.{end-within, split-last, split-more, check-long, check-empty, check-parts}

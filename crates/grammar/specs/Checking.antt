@@ -1,9 +1,9 @@
 -- Checking as the code goes about it, and what each case of its answers is in the paper (crates/paper/specs/Checking.antt).
 use Prim.Native.Nat.{ℕ, suc, _+_}
-use mathlib.Core.Bool.{true, false}
+use mathlib.Core.Bool.{Bool, true, false, not, _&&_}
 use mathlib.Core.List.{List, [], _∷_}
 use mathlib.Core.Option.{Option, none, some}
-use lib.ListN.{length, drop}
+use lib.ListN.{length, drop, getD}
 use lib.Dec.{leb, eqb}
 use Rattle.paper.specs.Bytes.{Bytes, if_then_else_, ch}
 use Rattle.paper.specs.Sizes.{value-mark, stack-most}
@@ -73,6 +73,10 @@ finished (some es) held loads others = counted (held-in held >>= all-stacked es)
 unfoldable pub code-end : Bytes → ℕ → ℕ
 code-end [] at = at
 code-end (b ∷ bs) at = if eqb b value-mark then at else code-end bs (suc at)
+
+-- a mark other than byte 253 at a place where a mark or the end is
+unfoldable pub stray : Bytes → ℕ → Bool
+stray s at = not (leb (length s) at) && not (eqb (getD s at 0) value-mark)
 
 -- the codes that are left, after so many loads and other steps
 unfoldable pub tallied : ℕ → ℕ → Checked → Verdict

@@ -9,10 +9,11 @@ use crate::elms::elm;
 use crate::places::peek;
 use codes::Elm;
 use codes::Operand;
+use lent::first_within;
 use paper::Limit;
 use paper::Mark;
 ghost use mathlib.Core.Path.{_≡_};
-ghost use mathlib.Core.Bool.{true};
+ghost use mathlib.Core.Bool.{true, false};
 ghost use Prim.Native.Nat.{_≤_};
 ghost use lib.ListN.{length, drop};
 ghost use Rattle.paper.specs.Bytes.{any};
@@ -30,6 +31,7 @@ ghost use Rattle.grammar.specs.Checking.{
   judged-of,
   fault-in,
   code-end,
+  stray,
   verdict-of,
 };
 
@@ -127,19 +129,6 @@ pub fn head(code: &[u8]) -> Head
     }
 }
 
-// Whether a byte 251 to 255 is there. No early exit, so that it is compiled to SIMD.
-pub(crate) fn marked(code: &[u8]) -> bool
-    ensures { λ r. ⌜ r ≡ any is-mark (now (code .entry)) ⌝ }
-{
-    let mut bad = false;
-    let mut i = 0;
-    while i < code.len() {
-        bad = bad | (Mark::BUFFER <= code[i]);
-        i += 1;
-    }
-    bad
-}
-
 fn judgement(held: u64, loads: u64, others: u64) -> Judged
     ensures { λ r. ⌜ r ≡ counted (held-in held) loads others ⌝ }
 {
@@ -178,13 +167,11 @@ fn judge_elms(code: &[u8], first: usize) -> Judged
     }
 }
 
-// One whole code.
+// One whole code, in which no mark stands.
 fn judge(code: &[u8]) -> Judged
+    requires { ⌜ any is-mark (now code) ≡ false ⌝ }
     ensures { λ r. ⌜ r ≡ judged-of (judged (now (code .entry))) ⌝ }
 {
-    if marked(code) {
-        return Judged::Faulty(paper::refusal::NOT_IN_GRAMMAR);
-    }
     match head(code) {
         Head::Function { first } => judge_elms(code, first),
         Head::Single(_) => Judged::Lawful {
@@ -197,16 +184,21 @@ fn judge(code: &[u8]) -> Judged
 
 // "codes parted at every byte 253, inside quotes too": where the code at a place ends.
 pub fn code_end(code: &[u8], from: usize) -> usize
+    requires { ⌜ from ≤ length (now code) ⌝ }
     ensures { λ r. ⌜ r ≡ code-end (drop from (now (code .entry))) from ⌝ }
 {
-    let mut at = from;
-    while at < code.len() {
-        if code[at] == Mark::VALUE {
-            return at;
-        }
-        at += 1;
+    first_within(code, from, code.len(), Mark::VALUE, Mark::VALUE)
+}
+
+// "Bytes 251, 252, 254, 255 in a code string are 6": whether one stands there, where a scan for marks stopped.
+fn stray(code: &[u8], at: usize) -> bool
+    ensures { λ r. ⌜ r ≡ stray (now (code .entry)) at ⌝ }
+{
+    if at < code.len() {
+        code[at] != Mark::VALUE
+    } else {
+        false
     }
-    at
 }
 
 // The number of a code's fault; 0 where it has none.
@@ -231,7 +223,13 @@ pub(crate) fn check_codes(code: &[u8]) -> Verdict
     let mut loads = 0;
     let mut others = 0;
     loop {
-        let end = code_end(code, at);
+        let end = first_within(code, at, code.len(), Mark::BUFFER, Mark::SEGMENT);
+        if stray(code, end) {
+            return Verdict::Refused {
+                number: paper::refusal::NOT_IN_GRAMMAR,
+                code: number,
+            };
+        }
         let judged = judge(&code[at..end]);
         let Judged::Lawful {
             loads: more_loads,

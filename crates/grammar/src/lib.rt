@@ -147,7 +147,7 @@ pub fn typed_date(code: &[u8], text: &[u8]) -> TypedDay
     if Limit::CODE < code.len() {
         return TypedDay::Refused(paper::refusal::OVER_LONG_CODE);
     }
-    if checking::marked(code) {
+    if lent::marked(code) {
         return TypedDay::Refused(paper::refusal::NOT_IN_GRAMMAR);
     }
     match checking::head(code) {

@@ -1,10 +1,53 @@
-// The loops on lent buffers that the crates above share: fill, clear and copy.
-// Each is stated by one list, `over`: the buffer with some bytes laid over it, and every other byte as it was.
-// Only crates of ours call these; each asks that the bytes it writes lie within the buffer.
+// The loops on lent bytes that the crates above share: scans for a byte; fill, clear and copy.
+// A scan is stated by a test of the bytes; a writer by one list, `over`: the buffer with some bytes laid over it, every other as it was.
+// Only crates of ours call these; each asks that the bytes it goes over lie within the buffer.
+use paper::Mark;
 ghost use mathlib.Core.Path.{_≡_};
 ghost use Prim.Native.Nat.{_+_, _≤_};
 ghost use lib.ListN.{length, take, drop, replicate};
+ghost use Rattle.paper.specs.Bytes.{any, within};
+ghost use Rattle.paper.specs.Sizes.{is-mark};
 ghost use Rattle.lent.specs.Over.{over};
+ghost use Rattle.lent.specs.Scan.{range, upto};
+
+// Whether a byte within low .. high is there. No early exit and a flag as wide as a byte, so that it is compiled to SIMD.
+pub fn some_within(text: &[u8], low: u8, high: u8) -> bool
+    ensures { λ r. ⌜ r ≡ any (within low high) (now (text .entry)) ⌝ }
+{
+    let mut found = 0u8;
+    let mut i = 0;
+    while i < text.len() {
+        let b = text[i];
+        i += 1;
+        if (low <= b) & (b <= high) {
+            found = 1;
+        }
+    }
+    found != 0
+}
+
+// Whether a mark is there, "a byte 251 to 255".
+pub fn marked(text: &[u8]) -> bool
+    ensures { λ r. ⌜ r ≡ any is-mark (now (text .entry)) ⌝ }
+{
+    some_within(text, Mark::BUFFER, Mark::SEGMENT)
+}
+
+// The first place from `from` up to `to` with a byte within low .. high, or `to`: byte by byte.
+pub fn first_within(text: &[u8], from: usize, to: usize, low: u8, high: u8) -> usize
+    requires { ⌜ (from ≤ to) × (to ≤ length (now text)) ⌝ }
+    ensures { λ r. ⌜ r ≡ from + length (upto low high (range (now (text .entry)) from to)) ⌝ }
+{
+    let mut at = from;
+    while at < to {
+        let b = text[at];
+        if (low <= b) & (b <= high) {
+            return at;
+        }
+        at += 1;
+    }
+    to
+}
 
 // `count` bytes b from place `at` on.
 pub fn fill(buf: &mut [u8], at: usize, count: usize, b: u8)

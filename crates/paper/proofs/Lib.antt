@@ -7,6 +7,7 @@ pub mod Examples
 pub mod Numbered
 pub mod Numerals
 pub mod Predicates
+pub mod Ranges
 pub mod Refusing
 pub mod Replacing
 pub mod Runs

@@ -9,7 +9,8 @@ use lib.Seq.{drop-drop, take-add, length-take-le}
 use lib.Dec.{eqb}
 use Rattle.paper.specs.Bytes.{Bytes, any, within, if_then_else_}
 use Rattle.paper.specs.Sizes.{attribute-mark}
-use Rattle.records.specs.Scan.{range, upto, tally, skip}
+use Rattle.lent.specs.Scan.{range, upto}
+use Rattle.records.specs.Scan.{tally, skip}
 use Rattle.records.proofs.Turns.{or-left, or-right, skip-cons}
 
 -- ---- a part of the record, in two

@@ -12,7 +12,8 @@ use Rattle.paper.specs.Bytes.{Bytes, within, if_then_else_}
 use Rattle.paper.specs.Sizes.{attribute-mark, value-mark, subvalue-mark}
 use Rattle.paper.specs.Records.{opened, split, join, alter, path, replaced}
 use Rattle.paper.proofs.Splitting.{join-split}
-use Rattle.records.specs.Scan.{upto, skip, spot-at, spot, marks, changed}
+use Rattle.lent.specs.Scan.{upto}
+use Rattle.records.specs.Scan.{skip, spot-at, spot, marks, changed}
 use Rattle.records.specs.declared.Stop.{Stop}
 use Rattle.records.proofs.Laws.{within-next, upto-all, drop-tail, take-upto}
 

@@ -14,7 +14,8 @@ use Rattle.paper.specs.Bytes.{Bytes, if_then_else_}
 use Rattle.paper.specs.Refusals.{Res, given, refused, _>>_, refusal-of}
 use Rattle.paper.specs.Records.{Part, path, place, reads, text-or-empty, lawful-record, lawful-address, find, extract}
 use Rattle.records.specs.Found.{lawful-find, found-of, Within, at, no-part, no-answer, found-bytes, found-there}
-use Rattle.records.specs.Scan.{range, spot}
+use Rattle.lent.specs.Scan.{range}
+use Rattle.records.specs.Scan.{spot}
 use Rattle.records.specs.declared.Spot.{Spot}
 use Rattle.records.specs.declared.Found.{Found}
 use Rattle.records.specs.declared.Found.the-variants.{At, Missing, Refused}

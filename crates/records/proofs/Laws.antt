@@ -14,7 +14,10 @@ use borrow.Author.Tests.{le-leb, leb-true, eqb-true, eqb-false}
 use Rattle.paper.specs.Bytes.{Bytes, within, if_then_else_}
 use Rattle.paper.specs.Sizes.{attribute-mark, value-mark, subvalue-mark}
 use Rattle.paper.specs.Records.{opened, split, first-of, Part, placed, pieces, nth, path, part-at, and-then, whole, place}
-use Rattle.records.specs.Scan.{range, upto, skip, spot-at, spot, marks, made, changed, changed-length}
+use Rattle.lent.specs.Scan.{range, upto}
+use Rattle.paper.proofs.Ranges.{within-yes, within-true, not-within}
+use Rattle.lent.proofs.Scans.{range-rest, length-upto}
+use Rattle.records.specs.Scan.{skip, spot-at, spot, marks, made, changed, changed-length}
 use Rattle.paper.specs.Refusals.{given}
 use Rattle.records.specs.Found.{found-of}
 use Rattle.records.specs.declared.Found.the-variants.{At, Missing}
@@ -31,26 +34,14 @@ first-opened true b ps = refl
 first-opened false b [] = refl
 first-opened false b (p ∷ ps) = refl
 
-pub within-in : (low high b : ℕ) (t u : Bool) → leb low b ≡ t → leb b high ≡ u → t && u ≡ true → (low ≤ b) × (b ≤ high)
-within-in low high b true true et eu e = (leb-true low b et, leb-true b high eu)
-within-in low high b true false et eu e = absurd (no-truth e)
-within-in low high b false u et eu e = absurd (no-truth e)
-
-in-within : (low high b : ℕ) → low ≤ b → b ≤ high → within low high b ≡ true
-in-within low high b h k = rw (le-leb low b h, le-leb b high k)
-
-pub not-within : (low high b : ℕ) (t : Bool) → within low high b ≡ t → (low ≤ b → b ≤ high → ⊥) → t ≡ false
-not-within low high b true e out = let w = within-in low high b (leb low b) (leb b high) refl refl e in absurd (out (w .0) (w .1))
-not-within low high b false e out = refl
-
 -- within m .. high: above m, or the mark m itself
 pub within-next : (m high b : ℕ) (t u : Bool) → m ≤ high → within (suc m) high b ≡ t → eqb b m ≡ u → within m high b ≡ t || u
 within-next m high b true u h et eu =
-    let w = within-in (suc m) high b (leb (suc m) b) (leb b high) refl refl et in
-    in-within m high b (omega arith) (w .1)
-within-next m high b false true h et eu = let e = eqb-true b m eu in in-within m high b (omega arith) (omega arith)
+    let w = within-true (suc m) high b et in
+    within-yes m high b (omega arith) (omega arith)
+within-next m high b false true h et eu = let e = eqb-true b m eu in within-yes m high b (omega arith) (omega arith)
 within-next m high b false false h et eu =
-    not-within m high b (within m high b) refl (λ l k. let ne = eqb-false b m eu in no-truth (sym et ∙ in-within (suc m) high b (lt-of-le-of-ne l (λ e. ne (sym e))) k))
+    not-within m high b (λ l k. let ne = eqb-false b m eu in no-truth (sym et ∙ within-yes (suc m) high b (lt-of-le-of-ne l (λ e. ne (sym e))) (omega arith)))
 
 module _ (m high : ℕ) (low : m ≤ high) where
   first-byte : (b : ℕ) (bs : Bytes) (t u : Bool) → within (suc m) high b ≡ t → eqb b m ≡ u → first-of (split m (upto (suc m) high bs)) ≡ upto m high bs
@@ -70,7 +61,7 @@ module _ (m high : ℕ) (low : m ≤ high) where
 pub upto-all : (m : ℕ) (bs : Bytes) → upto (suc m) m bs ≡ bs
 unfolding upto
 upto-all m [] = refl
-upto-all m (b ∷ bs) = rw (not-within (suc m) m b _ refl (λ l k. omega arith)) (ap (λ (l : Bytes). b ∷ l) (upto-all m bs))
+upto-all m (b ∷ bs) = rw (not-within (suc m) m b (λ l k. omega arith)) (ap (λ (l : Bytes). b ∷ l) (upto-all m bs))
 
 -- up to one mark: the first piece by it
 pub upto-mark : (m : ℕ) (bs : Bytes) → upto m m bs ≡ first-of (split m bs)
@@ -205,9 +196,6 @@ place-spot item a (suc v) (suc s) =
 
 -- ---- the spot, as the code comes to it, and its bounds
 
-pub length-upto : (low high : ℕ) (bs : Bytes) → length (upto low high bs) ≤ length bs
-length-upto low high bs = omega (arith, ap length (take-upto low high bs), length-take (length (upto low high bs)) bs)
-
 -- Where a scan stops: within what it scans, and with no more marks left than it was to pass.
 pub record Bounded (at size n : ℕ) (p : Stop) : Type 0 where
   pub after : at ≤ p .at
@@ -300,8 +288,8 @@ spot-few item a (suc v) (suc s) =
 
 pub spot-end : (m : ℕ) (item : Bytes) (at l₁ l₂ l₃ end : ℕ) → at ≤ length item → end ≡ at + length (upto m attribute-mark (range item at (length item)))
     → _≡_ {A = Spot} (record { start = at; end = end; attributes = l₁; values = l₂; subvalues = l₃ }) (spot-at m item at l₁ l₂ l₃)
-unfolding spot-at range
-spot-end m item at l₁ l₂ l₃ end h e = rw (e, take-all (length item - at) (drop at item) (omega (arith, length-drop at item)))
+unfolding spot-at
+spot-end m item at l₁ l₂ l₃ end h e = rw (e, range-rest item at)
 
 -- ---- what finding answers
 

@@ -12,8 +12,10 @@ use Rattle.paper.specs.Sizes.{attribute-mark, value-mark, subvalue-mark, buffer
 use Rattle.paper.specs.Refusals.{Res, given, refused, _>>_, refuse_unless_, refuse_when_, refusal-of}
 use Rattle.paper.specs.Records.{id-of, lawful-id, lawful-record, lawful-address}
 use Rattle.records.specs.Found.{lawful-find}
-use Rattle.records.specs.Scan.{range, upto, is-either}
-use Rattle.records.proofs.Laws.{upto-mark, take-upto, length-upto}
+use Rattle.lent.specs.Scan.{range, upto}
+use Rattle.records.specs.Scan.{is-either}
+use Rattle.lent.proofs.Scans.{range-rest, length-upto}
+use Rattle.records.proofs.Laws.{upto-mark, take-upto}
 
 -- a test that refuses with a number above 0
 pub data Told : Res (Unit {0}) → Type 0 where
@@ -73,18 +75,12 @@ pub id-upto : (item : Bytes) → id-of item ≡ upto attribute-mark attribute-ma
 unfolding id-of
 id-upto item = sym (upto-mark attribute-mark item)
 
-range-whole : (item : Bytes) → range item 0 (length item) ≡ item
-unfolding range
-range-whole item =
-    let e : length item - 0 ≡ length item = omega arith in
-    ap (λ (n : ℕ). take n item) e ∙ take-length item
-
 module _ (item : Bytes) (end : ℕ) (e : end ≡ 0 + length (upto attribute-mark attribute-mark (range item 0 (length item)))) where
   -- the place of the first attribute mark is the id's length
   pub id-end : end ≡ length (id-of item)
   id-end =
       let n : length (upto attribute-mark attribute-mark (range item 0 (length item))) ≡ length (id-of item)
-      = ap (λ (l : Bytes). length (upto attribute-mark attribute-mark l)) (range-whole item) ∙ ap length (sym (id-upto item)) in
+      = ap (λ (l : Bytes). length (upto attribute-mark attribute-mark l)) (range-rest item 0) ∙ ap length (sym (id-upto item)) in
       omega arith
 
   -- and the bytes before it are the id

@@ -14,13 +14,15 @@ use Rattle.paper.specs.Answers.{given-of}
 use Rattle.paper.specs.declared.Given.the-variants.{Length}
 use Rattle.paper.specs.Records.{first-of, split, join, alter, path, id-of, lawful-id, lawful-record, lawful-address, replaced, replace}
 use Rattle.records.specs.Found.{lawful-find}
-use Rattle.records.specs.Scan.{upto, spot, marks, changed, changed-length}
+use Rattle.lent.specs.Scan.{upto}
+use Rattle.records.specs.Scan.{spot, marks, changed, changed-length}
 use Rattle.records.specs.Planned.{lawful-new, Small, sized-plan, planned, plan-answer}
 use Rattle.records.specs.declared.Spot.{Spot}
 use Rattle.records.specs.declared.Plan.{Plan}
 use Rattle.records.specs.declared.Plan.the-variants.{Ready, Refused}
 use Rattle.records.proofs.Turns.{or-left, or-right}
-use Rattle.records.proofs.Laws.{not-within, upto-all, Lies, spot-lies, spot-few, length-changed}
+use Rattle.paper.proofs.Ranges.{not-within}
+use Rattle.records.proofs.Laws.{upto-all, Lies, spot-lies, spot-few, length-changed}
 use Rattle.records.proofs.Changing.{behind, behind-cons, upto-cons, join-alter, join-first-piece, whole-framed, replaced-spot}
 use Rattle.records.proofs.Refusing.{Told, told-unless, told-when, told-then, passed, stopped, told-find, id-upto}
 use Rattle.records.proofs.Finding.{then-then}
@@ -84,7 +86,7 @@ lawful item a v s e =
 -- no mark of any kind is no mark of this kind
 not-here : (low high b : ℕ) → buffer-mark ≤ low → high ≤ segment-mark → is-mark b ≡ false → within low high b ≡ false
 unfolding is-mark
-not-here low high b l h e = not-within low high b _ refl (λ x y. true≢false (rw (le-leb buffer-mark b (omega arith), le-leb b segment-mark (omega arith)) at e))
+not-here low high b l h e = not-within low high b (λ x y. true≢false (rw (le-leb buffer-mark b (omega arith), le-leb b segment-mark (omega arith)) at e))
 
 not-inner : (b : ℕ) → is-mark b ≡ false → is-inner-mark b ≡ false
 unfolding is-mark is-inner-mark

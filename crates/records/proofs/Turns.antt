@@ -11,11 +11,8 @@ use lib.Dec.{eqb}
 use borrow.Author.Tests.{eq-eqb, ne-eqb}
 use Rattle.paper.specs.Bytes.{Bytes, any, within, if_then_else_}
 use Rattle.paper.specs.Sizes.{attribute-mark}
-use Rattle.records.specs.Scan.{range, upto, tally, skip}
-
--- the byte at a place, and what is behind it
-here : (l : Bytes) (i : ℕ) → i < length l → drop i l ≡ getD l i 0 ∷ drop (i + 1) l
-here l i h = drop-cons l i 0 h ∙ ap (λ (k : ℕ). getD l i 0 ∷ drop k l) (sym (add-one i))
+use Rattle.lent.proofs.Scans.{next}
+use Rattle.records.specs.Scan.{tally, skip}
 
 pub or-left : (t u : Bool) → t || u ≡ false → t ≡ false
 or-left true u e = e
@@ -25,37 +22,12 @@ pub or-right : (t u : Bool) → t || u ≡ false → u ≡ false
 or-right true u e = absurd (true≢false e)
 or-right false u e = e
 
-or-false : (a : Bool) → a || false ≡ a
-or-false true = refl
-or-false false = refl
-
--- ---- a test of every byte, without early exit
-
-or-true : (a b : Bool) → a || (true || b) ≡ true
-or-true true b = refl
-or-true false b = refl
-
-module _ (p : ℕ → Bool) (text : Bytes) (flag : Bool) (i : ℕ) (e : any p text ≡ flag || any p (drop i text)) where
-  any-here : i < length text → any p text ≡ flag || (p (getD text i 0) || any p (drop (i + 1) text))
-  unfolding any
-  any-here h = e ∙ ap (λ (l : Bytes). flag || any p l) (here text i h)
-
-  pub any-hit : i < length text → p (getD text i 0) ≡ true → any p text ≡ true
-  any-hit h t = any-here h ∙ ap (λ (t : Bool). flag || (t || any p (drop (i + 1) text))) t ∙ or-true flag (any p (drop (i + 1) text))
-
-  pub any-miss : i < length text → p (getD text i 0) ≡ false → any p text ≡ flag || any p (drop (i + 1) text)
-  any-miss h t = any-here h ∙ ap (λ (t : Bool). flag || (t || any p (drop (i + 1) text))) t
-
-  pub any-all : length text ≤ i → flag ≡ any p text
-  unfolding any
-  any-all h = sym (e ∙ ap (λ (l : Bytes). flag || any p l) (drop-of-length-le text h) ∙ or-false flag)
-
 -- ---- how many bytes are a mark
 
 module _ (m : ℕ) (text : Bytes) (n i : ℕ) (e : tally m text ≡ n + tally m (drop i text)) where
   tally-here : i < length text → tally m text ≡ n + ((if eqb (getD text i 0) m then 1 else 0) + tally m (drop (i + 1) text))
   unfolding tally
-  tally-here h = e ∙ ap (λ (l : Bytes). n + tally m l) (here text i h)
+  tally-here h = e ∙ ap (λ (l : Bytes). n + tally m l) (next text i h)
 
   pub tally-hit : i < length text → getD text i 0 ≡ m → tally m text ≡ n + 1 + tally m (drop (i + 1) text)
   tally-hit h t =
@@ -73,35 +45,6 @@ module _ (m : ℕ) (text : Bytes) (n i : ℕ) (e : tally m text ≡ n + tally m 
       let all = e ∙ ap (λ (l : Bytes). n + tally m l) (drop-of-length-le text h) in
       omega arith
 
--- ---- the first byte within low .. high
-
-module _ (low high : ℕ) (item : Bytes) (to : ℕ) (inside : to ≤ length item) where
-  range-here : (at : ℕ) → at < to → range item at to ≡ getD item at 0 ∷ range item (at + 1) to
-  unfolding range
-  range-here at h =
-      let e : to - at ≡ suc (to - (at + 1)) = omega arith in
-      ap (λ (n : ℕ). take n (drop at item)) e ∙ ap (take (suc (to - (at + 1)))) (here item at (omega arith))
-
-  pub upto-hit : (at : ℕ) → at < to → within low high (getD item at 0) ≡ true → length (upto low high (range item at to)) ≡ 0
-  unfolding upto
-  upto-hit at h t =
-      ap (λ (l : Bytes). length (upto low high l)) (range-here at h)
-      ∙ ap (λ (t : Bool). length (if t then [] else (getD item at 0 ∷ upto low high (range item (at + 1) to)))) t
-
-  pub upto-more : (at : ℕ) → at < to → within low high (getD item at 0) ≡ false → at + length (upto low high (range item at to)) ≡ at + 1 + length (upto low high (range item (at + 1) to))
-  unfolding upto
-  upto-more at h t =
-      let e : length (upto low high (range item at to)) ≡ suc (length (upto low high (range item (at + 1) to)))
-      = ap (λ (l : Bytes). length (upto low high l)) (range-here at h)
-      ∙ ap (λ (t : Bool). length (if t then [] else (getD item at 0 ∷ upto low high (range item (at + 1) to)))) t in
-      omega arith
-
-  pub upto-none : (at : ℕ) → to ≤ at → length (upto low high (range item at to)) ≡ 0
-  unfolding upto range
-  upto-none at h =
-      let e : to - at ≡ 0 = omega arith in
-      ap (λ (n : ℕ). length (upto low high (take n (drop at item)))) e
-
 -- ---- past the marks
 
 -- a turn, with what is left seen as a successor
@@ -117,7 +60,7 @@ module _ (m : ℕ) (item : Bytes) (at left : ℕ) where
 
   skip-turn : at < length item → 0 < left
       → skip m (drop at item) at left ≡ (if within (suc m) attribute-mark (getD item at 0) then record { at = at; left = left } else skip m (drop (at + 1) item) (at + 1) (if eqb (getD item at 0) m then (left - 1) else left))
-  skip-turn h l = ap (λ (bs : Bytes). skip m bs at left) (here item at h) ∙ skip-cons m (getD item at 0) (drop (at + 1) item) at left (left - 1) (omega arith)
+  skip-turn h l = ap (λ (bs : Bytes). skip m bs at left) (next item at h) ∙ skip-cons m (getD item at 0) (drop (at + 1) item) at left (left - 1) (omega arith)
 
   pub skip-closed : at < length item → 0 < left → within (suc m) attribute-mark (getD item at 0) ≡ true → skip m (drop at item) at left ≡ record { at = at; left = left }
   skip-closed h l t = skip-turn h l ∙ rw t

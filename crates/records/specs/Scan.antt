@@ -6,17 +6,9 @@ use lib.ListN.{length, take, drop, replicate}
 use lib.Dec.{eqb}
 use Rattle.paper.specs.Bytes.{Bytes, within, if_then_else_}
 use Rattle.paper.specs.Sizes.{attribute-mark, value-mark, subvalue-mark}
+use Rattle.lent.specs.Scan.{upto}
 use Rattle.records.specs.declared.Stop.{Stop}
 use Rattle.records.specs.declared.Spot.{Spot}
-
--- the bytes from place `from` up to place `to`
-unfoldable pub range : Bytes → ℕ → ℕ → Bytes
-range item from to = take (to - from) (drop from item)
-
--- the bytes before the first that is within low .. high; all of them where none is
-unfoldable pub upto : ℕ → ℕ → Bytes → Bytes
-upto low high [] = []
-upto low high (b ∷ bs) = if within low high b then [] else (b ∷ upto low high bs)
 
 -- how many bytes are m
 unfoldable pub tally : ℕ → Bytes → ℕ

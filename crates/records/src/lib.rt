@@ -2,6 +2,8 @@
 // A record is tested once, in a loop without early exit; then its marks are counted from the left, no byte twice:
 // by blocks where there may be many bytes, which is compiled to SIMD, and one by one where there are few.
 // `find`, `extract` and `replace` take any input; the rest is for the crates above, which have tested the record.
+use lent::first_within;
+use lent::some_within;
 use paper::Given;
 use paper::Limit;
 use paper::Mark;
@@ -16,9 +18,10 @@ ghost use Rattle.paper.specs.Refusals.{given, refusal-of, answer-of};
 ghost use Rattle.paper.specs.Answers.{given-of};
 ghost use Rattle.paper.specs.Records.{lawful-id, lawful-record, lawful-address, place, path, reads, find, extract, replace};
 ghost use Rattle.records.specs.Found.{lawful-find, found-of, Within, found-bytes, found-there};
-ghost use Rattle.records.specs.Scan.{range, upto, tally, is-either, skip, spot-at, spot, marks, made, changed, changed-length};
+ghost use Rattle.records.specs.Scan.{tally, is-either, skip, spot-at, spot, marks, made, changed, changed-length};
 ghost use Rattle.records.specs.Planned.{lawful-new, Small, sized-plan, planned, plan-answer};
 ghost use Rattle.lent.specs.Over.{over};
+ghost use Rattle.lent.specs.Scan.{range, upto};
 
 // "The answer of finding is "found" or "missing"", or a refusal.
 pub enum Found {
@@ -54,23 +57,7 @@ const BLOCK: usize = 16;
 // A record below this is short.
 const SHORT: usize = 4 * BLOCK;
 
-// Whether a byte within low .. high is there. No early exit and a flag as wide as a byte, so that it is compiled to SIMD.
-fn some_within(text: &[u8], low: u8, high: u8) -> bool
-    ensures { λ r. ⌜ r ≡ any (within low high) (now (text .entry)) ⌝ }
-{
-    let mut found = 0u8;
-    let mut i = 0;
-    while i < text.len() {
-        let b = text[i];
-        i += 1;
-        if (low <= b) & (b <= high) {
-            found = 1;
-        }
-    }
-    found != 0
-}
-
-// How many bytes are the mark, in the same way.
+// How many bytes are the mark. No early exit, so that it is compiled to SIMD.
 fn tally(text: &[u8], mark: u8) -> u64
     ensures { λ r. ⌜ r ≡ tally mark (now (text .entry)) ⌝ }
 {
@@ -84,22 +71,6 @@ fn tally(text: &[u8], mark: u8) -> u64
         }
     }
     n
-}
-
-// The first place from `from` up to `to` with a byte within low .. high, or `to`: byte by byte.
-fn first_within(item: &[u8], from: usize, to: usize, low: u8, high: u8) -> usize
-    requires { ⌜ (from ≤ to) × (to ≤ length (now item)) ⌝ }
-    ensures { λ r. ⌜ r ≡ from + length (upto low high (range (now (item .entry)) from to)) ⌝ }
-{
-    let mut at = from;
-    while at < to {
-        let b = item[at];
-        if (low <= b) & (b <= high) {
-            return at;
-        }
-        at += 1;
-    }
-    to
 }
 
 // Past the blocks that hold no byte within low .. high.
@@ -422,7 +393,7 @@ fn lawful_new(new: &[u8], a: u64) -> u64
     if Limit::ENTRY < new.len() {
         return refusal::OVER_LONG_ENTRY;
     }
-    if some_within(new, Mark::BUFFER, Mark::SEGMENT) {
+    if lent::marked(new) {
         return refusal::MARK_IN_ELEMENT;
     }
     if (a == 0) & (Limit::ID < new.len()) {

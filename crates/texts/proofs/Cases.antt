@@ -1,6 +1,6 @@
 -- The case of a letter is one bit of its byte: proved by one test that antt computes at every byte.
-use mathlib.Core.Path.{_≡_, refl}
-use mathlib.Core.Bool.{Bool, true, false, _&&_}
+use mathlib.Core.Path.{_≡_, refl, sym}
+use mathlib.Core.Bool.{Bool, true, false, _&&_, true≢false}
 use Prim.Native.Nat.{ℕ, zero, suc, _<_}
 use native.Mathlib.Omega.{arith}
 use lib.Bits.{bitAnd, bitOr}
@@ -8,7 +8,6 @@ use lib.Dec.{eqb}
 use borrow.Author.Tests.{eqb-true, eqb-false}
 use Rattle.paper.specs.Bytes.{if_then_else_, is-letter, is-upper, is-lower}
 use Rattle.paper.specs.Texts.{raised, lowered}
-use Rattle.texts.proofs.Classes.{not-true}
 
 -- the test passes at each number below n
 abbrev every : (ℕ → Bool) → ℕ → Bool
@@ -17,7 +16,7 @@ every f (suc n) = f n && every f n
 
 both : (s t : Bool) → (s && t) ≡ true → (s ≡ true) × (t ≡ true)
 both true t e = (refl, e)
-both false t e = absurd (not-true e)
+both false t e = absurd (true≢false (sym e))
 
 at : (f : ℕ → Bool) (n : ℕ) → every f n ≡ true → (k : ℕ) → k < n → f k ≡ true
 at f zero e k h = absurd (omega arith)

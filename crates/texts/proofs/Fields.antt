@@ -17,7 +17,7 @@ use Rattle.paper.specs.Codes.{Plain}
 use Rattle.paper.specs.Texts.{plain-gives}
 use Rattle.paper.proofs.Splitting.{Filled, filled, split-filled}
 use Rattle.texts.specs.Scans.{ended, field-end, fields-after, first-fields}
-use Rattle.texts.proofs.Laws.{next}
+use Rattle.lent.proofs.Scans.{next}
 
 -- ---- the scan, a byte a turn
 

@@ -1,28 +1,21 @@
 -- Each code as the scan that the code makes, a byte a turn, and that the scan is what document 01 says.
 use mathlib.Core.Path.{_≡_, refl, sym, ap, _∙_}
-use mathlib.Core.Bool.{Bool, true, false, _||_}
+use mathlib.Core.Bool.{Bool, true, false}
 use mathlib.Core.List.{[], _∷_, map}
 use Prim.Native.Nat.{ℕ, suc, _+_, _-_, _≤_, _<_}
 use native.Mathlib.Nat.{le-refl}
-use native.Mathlib.Numerals.{add-one}
 use native.Mathlib.Omega.{arith}
 use lib.ListN.{length, take, drop, getD, length-take, length-drop, drop-of-length-le}
-use lib.Seq.{drop-cons, take-all}
-use Rattle.paper.specs.Bytes.{Bytes, if_then_else_, is-letter, any, only}
+use lib.Seq.{take-all}
+use Rattle.paper.specs.Bytes.{Bytes, if_then_else_, is-letter, only}
 use Rattle.paper.specs.Refusals.{given}
 use Rattle.paper.specs.Texts.{plain-gives, raised, lowered, titled}
+use Rattle.lent.proofs.Scans.{next}
 use Rattle.texts.specs.Codes.{kept-code, kept, cased-code, turned}
 use Rattle.texts.specs.declared.Class.{Class}
 use Rattle.texts.specs.declared.Class.the-variants.{Letters, OtherThanLetters, Numerals, OtherThanNumerals}
 use Rattle.texts.specs.declared.Casing.{Casing}
 use Rattle.texts.specs.declared.Casing.the-variants.{Upper, Lower, Title}
-
--- the byte at i and what follows it
-pub next : (e : Bytes) (i : ℕ) → i < length e → drop i e ≡ getD e i 0 ∷ drop (i + 1) e
-next e i h = rw (add-one i) (drop-cons e i 0 h)
-
-pub whole-rest : (e : Bytes) (n : ℕ) → take (length e - n) (drop n e) ≡ drop n e
-whole-rest e n = take-all (length e - n) (drop n e) (omega (arith, length-drop n e))
 
 pub part-fits : (n k : ℕ) (e : Bytes) → length (take n (drop k e)) ≤ length e
 part-fits n k e = omega (arith, length-take n (drop k e), length-drop k e)
@@ -30,26 +23,6 @@ part-fits n k e = omega (arith, length-take n (drop k e), length-drop k e)
 pub either-fits : (t : Bool) (e : Bytes) → length (if t then e else []) ≤ length e
 either-fits true e = le-refl (length e)
 either-fits false e = omega arith
-
--- ---- a byte that passes a test
-
-or-assoc : (s t u : Bool) → (s || (t || u)) ≡ (s || t || u)
-or-assoc true t u = refl
-or-assoc false t u = refl
-
-or-false : (t : Bool) → (t || false) ≡ t
-or-false true = refl
-or-false false = refl
-
--- the flag has what the bytes before i tell
-module _ (p : ℕ → Bool) (e : Bytes) (flag : Bool) (i : ℕ) (told : any p e ≡ flag || any p (drop i e)) where
-  pub any-next : i < length e → any p e ≡ flag || p (getD e i 0) || any p (drop (i + 1) e)
-  unfolding any
-  any-next h = told ∙ rw (next e i h) (or-assoc flag (p (getD e i 0)) (any p (drop (i + 1) e)))
-
-  pub any-all : length e ≤ i → flag ≡ any p e
-  unfolding any
-  any-all h = sym (told ∙ rw (drop-of-length-le e h) (or-false flag))
 
 -- ---- MCA, MC/A, MCN, MC/N
 

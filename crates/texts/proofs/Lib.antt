@@ -1,4 +1,3 @@
-pub mod Classes
 pub mod Cases
 pub mod Writing
 pub mod Laws

@@ -15,7 +15,6 @@ use Rattle.texts.proofs.letter.is_letter.Reads as is-letter
 use Rattle.texts.proofs.letter.is_digit.Reads as is-digit
 use Rattle.texts.proofs.letter.raise.Reads as raise
 use Rattle.texts.proofs.letter.lower.Reads as lower
-use Rattle.texts.proofs.letter.is_mark.Reads as is-mark
 use Rattle.texts.proofs.part.index.Reads as index
 use Rattle.texts.proofs.hexit.digit.Reads as digit
 use Rattle.texts.proofs.hexit.is_other.Reads as is-other
@@ -72,9 +71,6 @@ raise-settled κs a r r′ e e′ p q = p ∙ sym q
 
 lower-settled : (κs : Lfts 0) → (a : _) (r r′ : _) (e e′ : _) → lower.Post κs a r e → lower.Post κs a r′ e′ → r ≡ r′
 lower-settled κs a r r′ e e′ p q = p ∙ sym q
-
-is-mark-settled : (κs : Lfts 0) → (a : _) (r r′ : _) (e e′ : _) → is-mark.Post κs a r e → is-mark.Post κs a r′ e′ → r ≡ r′
-is-mark-settled κs a r r′ e e′ p q = p ∙ sym q
 
 index-settled : (κs : Lfts 0) → (a : _) (r r′ : _) (e e′ : _) → index.Post κs a r e → index.Post κs a r′ e′ → r ≡ r′
 index-settled κs a r r′ e e′ p q = p ∙ sym q

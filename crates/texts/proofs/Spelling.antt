@@ -1,6 +1,6 @@
 -- MX and MY: their scans, a byte or a pair of hex digits a turn, and that MY gives back what MX made.
 use mathlib.Core.Path.{_≡_, refl, sym, ap, _∙_}
-use mathlib.Core.Bool.{Bool, true, false, not, _||_}
+use mathlib.Core.Bool.{Bool, true, false, not, _||_, true≢false}
 use mathlib.Core.List.{[], _∷_}
 use mathlib.Core.Option.{Option, none, some}
 use Prim.Native.Nat.{ℕ, suc, _+_, _-_, _*_, _/_, _%_, _≤_, _<_}
@@ -17,8 +17,8 @@ use Rattle.paper.specs.Texts.{plain-gives, hex-digit, hexed, hex-value, unhexed
 use Rattle.paper.specs.Steps.{limited}
 use Rattle.texts.specs.Codes.{outcome}
 use Rattle.texts.specs.Scans.{is-none, is-other, worth, decoded}
-use Rattle.texts.proofs.Classes.{inside, above, within-true, not-true}
-use Rattle.texts.proofs.Laws.{next}
+use Rattle.paper.proofs.Ranges.{within-yes, within-above, within-true}
+use Rattle.lent.proofs.Scans.{next}
 use Rattle.texts.proofs.Writing.{passed-on}
 
 -- ---- MX
@@ -124,7 +124,7 @@ odd-refused (b ∷ c ∷ bs) h = pair-refused b c bs (odd-refused bs (λ z. h (o
 
 other-refused : (e : Bytes) → any is-other e ≡ true → unhexed e ≡ refused not-convertible
 unfolding unhexed any is-other
-other-refused [] t = absurd (not-true t)
+other-refused [] t = absurd (true≢false (sym t))
 other-refused (b ∷ []) t = refl
 other-refused (b ∷ c ∷ bs) t = go (hex-value b) refl (hex-value c) refl t (other-refused bs)
   where
@@ -142,8 +142,8 @@ digits-spelled (b ∷ c ∷ bs) h t = go (hex-value b) refl (hex-value c) refl t
   where
     go : (o : Option ℕ) → hex-value b ≡ o → (p : Option ℕ) → hex-value c ≡ p → (is-none o || (is-none p || any is-other bs)) ≡ false
         → (any is-other bs ≡ false → unhexed bs ≡ given (decoded bs)) → unhexed (b ∷ c ∷ bs) ≡ given ((worth b * 16 + worth c) ∷ decoded bs)
-    go none e p f t rest = absurd (not-true (sym t))
-    go (some x) e none f t rest = absurd (not-true (sym t))
+    go none e p f t rest = absurd (true≢false t)
+    go (some x) e none f t rest = absurd (true≢false t)
     go (some x) e (some y) f t rest = both-digits b c bs e f (rest t)
 
 -- what MY comes to: 12, or 13, or the bytes
@@ -174,10 +174,10 @@ unfolding hex-value hex-digit is-digit
 digit-back n h = go (ltb n 10) refl
   where
     go : (t : Bool) → ltb n 10 ≡ t → hex-value (if t then 48 + n else 65 + (n - 10)) ≡ some n
-    go true s = let l : n < 10 = ltb-true n 10 s in rw (inside 48 57 (48 + n) (omega arith) (omega arith)) (ap some (omega arith))
+    go true s = let l : n < 10 = ltb-true n 10 s in rw (within-yes 48 57 (48 + n) (omega arith) (omega arith)) (ap some (omega arith))
     go false s =
         let l : 10 ≤ n = ltb-false n 10 s in
-        rw (above 48 57 (65 + (n - 10)) (omega arith), inside 65 70 (65 + (n - 10)) (omega arith) (omega arith)) (ap some (omega arith))
+        rw (within-above 48 57 (65 + (n - 10)) (omega arith), within-yes 65 70 (65 + (n - 10)) (omega arith) (omega arith)) (ap some (omega arith))
 
 -- the bytes that MX spells are read back
 pub unhexed-hexed : (bs : Bytes) → ((k : ℕ) → getD bs k 0 < 256) → unhexed (hexed bs) ≡ given bs

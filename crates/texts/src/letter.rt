@@ -1,9 +1,7 @@
-// Letter classes (document 01: "Letters are ASCII") the case of one byte, and the marks.
+// Letter classes (document 01: "Letters are ASCII") and the case of one byte.
 ghost use mathlib.Core.Path.{_≡_};
 ghost use Rattle.paper.specs.Bytes.{is-upper, is-lower, is-letter, is-digit};
-ghost use Rattle.paper.specs.Sizes.{is-mark};
 ghost use Rattle.paper.specs.Texts.{raised, lowered};
-use paper::Mark;
 
 pub fn is_upper(b: u8) -> bool
     ensures { λ r. ⌜ r ≡ is-upper b ⌝ }
@@ -56,15 +54,5 @@ pub fn lower(b: u8) -> u8
     match b {
         b'A'..=b'Z' => b + 32,
         _ => b,
-    }
-}
-
-// "a byte 251 to 255".
-pub fn is_mark(b: u8) -> bool
-    ensures { λ r. ⌜ r ≡ is-mark b ⌝ }
-{
-    match b {
-        Mark::BUFFER..=Mark::SEGMENT => true,
-        _ => false,
     }
 }

@@ -5,7 +5,7 @@ ghost use mathlib.Core.Path.{_≡_};
 ghost use Prim.Native.Nat.{_≤_};
 ghost use lib.ListN.{length};
 ghost use Rattle.paper.specs.Bytes.{any};
-ghost use Rattle.paper.specs.Sizes.{entry-most, is-mark};
+ghost use Rattle.paper.specs.Sizes.{entry-most};
 ghost use Rattle.paper.specs.Refusals.{given};
 ghost use Rattle.paper.specs.Answers.{given-of, written};
 ghost use Rattle.paper.specs.Codes.{Plain};
@@ -182,19 +182,6 @@ fn has_other(e: &[u8]) -> bool
     found
 }
 
-// Whether a mark is there, in the same way.
-fn has_mark(e: &[u8]) -> bool
-    ensures { λ r. ⌜ r ≡ any is-mark (now (e .entry)) ⌝ }
-{
-    let mut found = false;
-    let mut i = 0;
-    while i < e.len() {
-        found = found | letter::is_mark(e[i]);
-        i += 1;
-    }
-    found
-}
-
 // The bytes that pairs of hex digits spell, in front of the output, and how many they are.
 fn decode(e: &[u8], out: &mut [u8]) -> usize
     requires { ⌜ length (now e) ≤ length (now out) ⌝ }
@@ -226,7 +213,7 @@ pub fn unhex(e: &[u8], out: &mut [u8]) -> Given
     let mut spelled = [0u8; Limit::ENTRY];
     let n = decode(e, &mut spelled);
     let part = &spelled[0..n];
-    if has_mark(part) {
+    if lent::marked(part) {
         return Given::Refused(refusal::MARK_FROM_HEX);
     }
     give(part, out)

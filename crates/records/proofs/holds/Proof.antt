@@ -8,7 +8,7 @@ use lib.Dec.{eqb}
 use denote.Ref.{now}
 use Rattle.paper.specs.Bytes.{any}
 use Rattle.records.specs.Scan.{is-either}
-use Rattle.records.proofs.Turns.{any-hit, any-miss, any-all}
+use Rattle.lent.proofs.Scans.{any-hit, any-miss, any-all}
 use Rattle.records.proofs.holds.Statement.{statement}
 use Rattle.records.proofs.holds.Tie as tie
 

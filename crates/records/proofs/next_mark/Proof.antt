@@ -3,7 +3,7 @@ use mathlib.Core.Path.{sym, _∙_}
 use native.Mathlib.Omega.{arith}
 use borrow.Author.Needs.{needs}
 use denote.Ref.{now}
-use Rattle.records.proofs.Turns.{upto-hit, upto-none}
+use Rattle.lent.proofs.Scans.{upto-hit, upto-none}
 use Rattle.records.proofs.Blocks.{mark-near, mark-far}
 use Rattle.records.proofs.next_mark.Statement.{statement}
 use Rattle.records.proofs.next_mark.Tie as tie

@@ -5,7 +5,7 @@ use native.Mathlib.Omega.{arith}
 use borrow.Author.Needs.{needs}
 use lib.ListN.{length}
 use denote.Ref.{now}
-use Rattle.records.specs.Scan.{range, upto}
+use Rattle.lent.specs.Scan.{range, upto}
 use Rattle.records.proofs.Blocks.{mark-clear}
 use Rattle.records.proofs.pass_blocks.Statement.{statement}
 use Rattle.records.proofs.pass_blocks.Tie as tie

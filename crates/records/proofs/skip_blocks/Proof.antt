@@ -7,7 +7,8 @@ use lib.ListN.{length, drop}
 use lib.Dec.{leb}
 use borrow.Author.Tests.{leb-false}
 use denote.Ref.{now}
-use Rattle.records.specs.Scan.{range, skip}
+use Rattle.lent.specs.Scan.{range}
+use Rattle.records.specs.Scan.{skip}
 use Rattle.records.proofs.Turns.{or-left, or-right}
 use Rattle.records.proofs.Blocks.{skip-block}
 use Rattle.records.proofs.skip_blocks.Statement.{statement}

@@ -7,7 +7,7 @@ use lib.ListN.{length, drop}
 use borrow.Author.Needs.{needs}
 use Rattle.paper.specs.Bytes.{any}
 use Rattle.texts.specs.Scans.{is-other}
-use Rattle.texts.proofs.Laws.{any-next, any-all}
+use Rattle.lent.proofs.Scans.{any-next, any-all}
 use Rattle.texts.proofs.has_other.Statement.{statement}
 use Rattle.texts.proofs.has_other.Tie as tie
 

@@ -34,8 +34,8 @@ spelled : (c : tie.After-decode) → take (c .decode .result - 0) (c .decode .la
 spelled c = front _ _ (c .decode .ensures .0) (c .decode .ensures .1)
 
 -- whether a mark is among them
-marks : (c : tie.After-has-mark) → any is-mark (decoded (c .before .before .before .before .before .before .before .before .before .before .before .args .e .now)) ≡ c .has-mark .result
-marks c = sym (c .has-mark .ensures ∙ ap (any is-mark) (spelled (c .before .before .before .before)))
+marks : (c : tie.After-marked) → any is-mark (decoded (c .before .before .before .before .before .before .before .before .before .before .before .args .e .now)) ≡ c .marked .result
+marks c = sym (c .marked .ensures ∙ ap (any is-mark) (spelled (c .before .before .before .before)))
 
 returns-3 : tie.Need-returns-3
 returns-3 c =

@@ -1,21 +1,21 @@
 -- `letter::is_digit` tells the digits: one test against each end of their range. Assumes nothing.
 use mathlib.Core.Path.{sym}
 use Rattle.paper.specs.Bytes.{is-digit}
-use Rattle.texts.proofs.Classes.{inside, below, above}
+use Rattle.paper.proofs.Ranges.{within-yes, within-below, within-above}
 use Rattle.texts.proofs.letter.is_digit.Statement.{statement}
 use Rattle.texts.proofs.letter.is_digit.Tie as tie
 
 returns : tie.Need-returns
 unfolding is-digit
-returns c = sym (inside 48 57 _ (c .before .if1 .left) (c .if2 .taken))
+returns c = sym (within-yes 48 57 _ (c .before .if1 .left) (c .if2 .taken))
 
 returns-2 : tie.Need-returns-2
 unfolding is-digit
-returns-2 c = sym (below 48 57 _ (c .if1 .taken))
+returns-2 c = sym (within-below 48 57 _ (c .if1 .taken))
 
 returns-3 : tie.Need-returns-3
 unfolding is-digit
-returns-3 c = sym (above 48 57 _ (c .if2 .left))
+returns-3 c = sym (within-above 48 57 _ (c .if2 .left))
 
 pub is-digit-spec : {M : Type 1} → statement M
 is-digit-spec = tie.close (tie.spec returns returns-2 returns-3)

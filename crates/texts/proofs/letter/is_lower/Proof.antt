@@ -1,21 +1,21 @@
 -- `letter::is_lower` tells the lower-case letters: one test against each end of their range. Assumes nothing.
 use mathlib.Core.Path.{sym}
 use Rattle.paper.specs.Bytes.{is-lower}
-use Rattle.texts.proofs.Classes.{inside, below, above}
+use Rattle.paper.proofs.Ranges.{within-yes, within-below, within-above}
 use Rattle.texts.proofs.letter.is_lower.Statement.{statement}
 use Rattle.texts.proofs.letter.is_lower.Tie as tie
 
 returns : tie.Need-returns
 unfolding is-lower
-returns c = sym (inside 97 122 _ (c .before .if1 .left) (c .if2 .taken))
+returns c = sym (within-yes 97 122 _ (c .before .if1 .left) (c .if2 .taken))
 
 returns-2 : tie.Need-returns-2
 unfolding is-lower
-returns-2 c = sym (below 97 122 _ (c .if1 .taken))
+returns-2 c = sym (within-below 97 122 _ (c .if1 .taken))
 
 returns-3 : tie.Need-returns-3
 unfolding is-lower
-returns-3 c = sym (above 97 122 _ (c .if2 .left))
+returns-3 c = sym (within-above 97 122 _ (c .if2 .left))
 
 pub is-lower-spec : {M : Type 1} → statement M
 is-lower-spec = tie.close (tie.spec returns returns-2 returns-3)

@@ -2,7 +2,7 @@
 use borrow.Author.Needs.{needs}
 use Rattle.paper.specs.Bytes.{is-upper}
 use Rattle.paper.specs.Texts.{lowered}
-use Rattle.texts.proofs.Classes.{inside, below, above}
+use Rattle.paper.proofs.Ranges.{within-yes, within-below, within-above}
 use Rattle.texts.proofs.letter.lower.Statement.{statement}
 use Rattle.texts.proofs.letter.lower.Tie as tie
 
@@ -11,15 +11,15 @@ add-result c = search needs
 
 returns : tie.Need-returns
 unfolding lowered is-upper
-returns c = simp (inside 65 90 _ (c .before .if1 .left) (c .if2 .taken))
+returns c = simp (within-yes 65 90 _ (c .before .if1 .left) (c .if2 .taken))
 
 returns-2 : tie.Need-returns-2
 unfolding lowered is-upper
-returns-2 c = simp (below 65 90 _ (c .if1 .taken))
+returns-2 c = simp (within-below 65 90 _ (c .if1 .taken))
 
 returns-3 : tie.Need-returns-3
 unfolding lowered is-upper
-returns-3 c = simp (above 65 90 _ (c .if2 .left))
+returns-3 c = simp (within-above 65 90 _ (c .if2 .left))
 
 pub lower-spec : {M : Type 1} → statement M
 lower-spec = tie.close (tie.spec add-result returns returns-2 returns-3)

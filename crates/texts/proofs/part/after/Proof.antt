@@ -3,7 +3,7 @@ use mathlib.Core.Path.{sym, _∙_}
 use lib.ListN.{length, drop-of-length-le}
 use lib.Seq.{drop-length}
 use borrow.Author.Needs.{needs}
-use Rattle.texts.proofs.Laws.{whole-rest}
+use Rattle.lent.proofs.Scans.{whole-rest}
 use Rattle.texts.proofs.part.after.Statement.{statement}
 use Rattle.texts.proofs.part.after.Tie as tie
 

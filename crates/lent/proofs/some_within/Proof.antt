@@ -1,4 +1,4 @@
--- `records::some_within` meets its contract: the flag has what the bytes passed tell, and the rest tells the rest.
+-- `lent::some_within` meets its contract: the flag has what the bytes passed tell, and the rest tells the rest.
 use Prim.Native.Nat.{_-_, _≤_}
 use mathlib.Core.Path.{_≡_, refl}
 use mathlib.Core.Bool.{_||_, not}
@@ -7,9 +7,9 @@ use lib.ListN.{length, drop}
 use lib.Dec.{eqb}
 use denote.Ref.{now}
 use Rattle.paper.specs.Bytes.{any, within}
-use Rattle.records.proofs.Turns.{any-hit, any-miss, any-all}
-use Rattle.records.proofs.some_within.Statement.{statement}
-use Rattle.records.proofs.some_within.Tie as tie
+use Rattle.lent.proofs.Scans.{any-hit, any-miss, any-all}
+use Rattle.lent.proofs.some_within.Statement.{statement}
+use Rattle.lent.proofs.some_within.Tie as tie
 
 abbrev Inv-loop : tie.InvT-loop
 Inv-loop text low high found₀ i₀ found i = (i ≤ length text) × (any (within low high) text ≡ not (eqb found 0) || any (within low high) (drop i text))

@@ -1,0 +1,14 @@
+-- A scan of some of the bytes for one within two bounds.
+use Prim.Native.Nat.{ℕ, _-_}
+use mathlib.Core.List.{[], _∷_}
+use lib.ListN.{take, drop}
+use Rattle.paper.specs.Bytes.{Bytes, within, if_then_else_}
+
+-- the bytes from place `from` up to place `to`
+unfoldable pub range : Bytes → ℕ → ℕ → Bytes
+range text from to = take (to - from) (drop from text)
+
+-- the bytes before the first that is within low .. high; all of them where none is
+unfoldable pub upto : ℕ → ℕ → Bytes → Bytes
+upto low high [] = []
+upto low high (b ∷ bs) = if within low high b then [] else (b ∷ upto low high bs)
