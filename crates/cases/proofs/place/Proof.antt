@@ -1,9 +1,9 @@
--- `runs::place` meets its contract: the place stays within the text. Assumes nothing.
+-- `cases::place` meets its contract: the place stays within the text. Assumes nothing.
 use Prim.Native.Nat.{_≤_, _-_}
 use native.Mathlib.Omega.{arith}
 use lib.ListN.{length}
-use Rattle.runs.proofs.place.Statement.{statement}
-use Rattle.runs.proofs.place.Tie as tie
+use Rattle.cases.proofs.place.Statement.{statement}
+use Rattle.cases.proofs.place.Tie as tie
 
 abbrev Inv-loop : tie.InvT-loop
 Inv-loop text from b at₀ at = (from ≤ at) × (at ≤ length text)

@@ -1,12 +1,12 @@
--- `runs::copied` is safe and ends, and counts bytes of the line.
+-- `cases::copied` is safe and ends, and counts bytes of the line.
 use Prim.Native.Nat.{_-_, _≤_}
 use mathlib.Core.Path.{_≡_, sym}
 use native.Mathlib.Omega.{arith}
 use borrow.Author.Needs.{needs}
 use lib.ListN.{length, length-set}
 use lib.Seq.{length-take-le}
-use Rattle.runs.proofs.copied.Statement.{statement}
-use Rattle.runs.proofs.copied.Tie as tie
+use Rattle.cases.proofs.copied.Statement.{statement}
+use Rattle.cases.proofs.copied.Tie as tie
 
 abbrev Inv-loop : tie.InvT-loop
 Inv-loop text line₀ n₀ line n = (n ≤ length line) × (length line ≡ length line₀)
