@@ -1,15 +1,13 @@
 // Checks a table of code strings, a line of standard input each.
 // Writes refusal, code number, A and B, parted by single blanks, and after them the string itself.
 // The table has every form of document 01's grammar once, near misses of each, and its examples on both sides.
+use cases::say;
 use grammar::Verdict;
 use libc::STDIN_FILENO;
-use libc::STDOUT_FILENO;
-ghost use Prim.Native.Nat.{_≤_};
-ghost use lib.ListN.{length};
 
 fn write_number(n: u64) {
-    io::print_decimal(STDOUT_FILENO, n);
-    io::write_all(STDOUT_FILENO, b" ");
+    cases::say_number(n);
+    say(b" ");
 }
 
 fn write_numbers(refusal: u64, number: u64, loads: u64, others: u64) {
@@ -29,29 +27,14 @@ fn write_verdict(verdict: Verdict) {
 
 fn show(code: &[u8]) {
     write_verdict(grammar::check(code));
-    io::write_all(STDOUT_FILENO, code);
-    io::write_all(STDOUT_FILENO, b"\n");
-}
-
-// A line ends at byte 10, or with the text.
-fn line_end(text: &[u8], from: usize) -> usize
-    requires { ⌜ from ≤ length (now text) ⌝ }
-    ensures { λ r. ⌜ (from ≤ r) × (r ≤ length (now (text .entry))) ⌝ }
-{
-    let mut at = from;
-    while at < text.len() {
-        if text[at] == b'\n' {
-            return at;
-        }
-        at += 1;
-    }
-    at
+    say(code);
+    say(b"\n");
 }
 
 fn show_lines(text: &[u8]) {
     let mut at = 0;
     while at < text.len() {
-        let end = line_end(text, at);
+        let end = cases::place(text, at, b'\n');
         show(&text[at..end]);
         if end == text.len() {
             return;

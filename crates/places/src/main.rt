@@ -1,65 +1,15 @@
 // Runs finding, extracting and replacing on document 01's examples and on both sides of the limits, a line for each.
 // Marks are drawn as in the paper, `^` for 254, `]` for 253 and `\` for 252, and a zero byte as `.`.
 // That the answers are right is proved of `records`; this shows them, and what it writes is compared with a stored text.
-use libc::STDOUT_FILENO;
+use cases::quote;
+use cases::say;
+use cases::say_number;
+use cases::show;
+use cases::spelled;
 use paper::Given;
 use paper::Mark;
 use records::Found;
 ghost use Prim.Native.Nat.{_≤_};
-ghost use Rattle.io.specs.Counts.{Counts};
-
-// The byte that a drawn mark stands for.
-fn raw(b: u8) -> u8 {
-    match b {
-        b'^' => Mark::ATTRIBUTE,
-        b']' => Mark::VALUE,
-        b'\\' => Mark::SUBVALUE,
-        _ => b,
-    }
-}
-
-fn drawn(b: u8) -> u8 {
-    match b {
-        Mark::ATTRIBUTE => b'^',
-        Mark::VALUE => b']',
-        Mark::SUBVALUE => b'\\',
-        0 => b'.',
-        _ => b,
-    }
-}
-
-fn shown(b: u8, draw: bool) -> u8 {
-    if draw { drawn(b) } else { raw(b) }
-}
-
-// As much of a text as there is room for, its marks drawn or, the other way, put in.
-fn copied(text: &[u8], line: &mut [u8], draw: bool) -> usize
-    ensures { λ r. ⌜ Counts r (now (line .exit)) ⌝ }
-{
-    let mut n = 0;
-    while n < text.len() {
-        if line.len() <= n {
-            return n;
-        }
-        line[n] = shown(text[n], draw);
-        n += 1;
-    }
-    n
-}
-
-fn say(text: &[u8]) {
-    io::write_all(STDOUT_FILENO, text);
-}
-
-fn show(text: &[u8]) {
-    let mut line = [0u8; 64];
-    let n = copied(text, &mut line, true);
-    say(&line[..n]);
-}
-
-fn say_number(n: u64) {
-    io::print_decimal(STDOUT_FILENO, n);
-}
 
 fn say_address(a: u64, v: u64, s: u64) {
     say(b" (");
@@ -103,23 +53,23 @@ fn say_given(given: Given) {
 // Where a part is, and then the part itself.
 fn finding(text: &[u8], a: u64, v: u64, s: u64) {
     let mut buffer = [0u8; 64];
-    let n = copied(text, &mut buffer, false);
+    let n = spelled(text, true, &mut buffer);
     say(b"find ");
     show(text);
     say_address(a, v, s);
     say_found(records::find(&buffer[..n], a, v, s));
-    say(b" \"");
-    show(records::extract(&buffer[..n], a, v, s));
-    say(b"\"\n");
+    say(b" ");
+    quote(records::extract(&buffer[..n], a, v, s));
+    say(b"\n");
 }
 
 // What is answered, and then the whole output.
 fn replaced(item: &[u8], a: u64, v: u64, s: u64, new: &[u8], out: &mut [u8]) {
     let given = records::replace(item, a, v, s, new, out);
     say_given(given);
-    say(b" \"");
-    show(out);
-    say(b"\"\n");
+    say(b" ");
+    quote(out);
+    say(b"\n");
 }
 
 // The output held question marks.
@@ -134,8 +84,8 @@ fn replacing(text: &[u8], a: u64, v: u64, s: u64, new: &[u8], room: usize)
     say_address(a, v, s);
     say(b" := ");
     show(new);
-    let n = copied(text, &mut buffer, false);
-    let k = copied(new, &mut element, false);
+    let n = spelled(text, true, &mut buffer);
+    let k = spelled(new, true, &mut element);
     replaced(&buffer[..n], a, v, s, &element[..k], &mut out[0..room]);
 }
 

@@ -1,12 +1,12 @@
--- `runs::spelled` is safe and ends, and counts bytes of its output. Assumes nothing.
+-- `cases::spelled` is safe and ends, and counts bytes of its output. Assumes nothing.
 use Prim.Native.Nat.{_-_, _≤_}
 use mathlib.Core.Path.{_≡_, sym}
 use native.Mathlib.Omega.{arith}
 use borrow.Author.Needs.{needs}
 use lib.ListN.{length}
 use lib.Seq.{length-take-le}
-use Rattle.runs.proofs.spelled.Statement.{statement}
-use Rattle.runs.proofs.spelled.Tie as tie
+use Rattle.cases.proofs.spelled.Statement.{statement}
+use Rattle.cases.proofs.spelled.Tie as tie
 
 abbrev Inv-loop : tie.InvT-loop
 Inv-loop text marks out₀ n₀ at₀ out n at = (n ≤ length out) × (length out ≡ length out₀) × (at ≤ length text)

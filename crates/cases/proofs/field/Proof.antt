@@ -1,10 +1,10 @@
--- `runs::field` is safe and ends: each field lies within the text. Assumes nothing.
+-- `cases::field` is safe and ends: each field lies within the text. Assumes nothing.
 use Prim.Native.Nat.{_-_, _≤_}
 use native.Mathlib.Omega.{arith}
 use borrow.Author.Needs.{needs}
 use lib.ListN.{length}
-use Rattle.runs.proofs.field.Statement.{statement}
-use Rattle.runs.proofs.field.Tie as tie
+use Rattle.cases.proofs.field.Statement.{statement}
+use Rattle.cases.proofs.field.Tie as tie
 
 abbrev Inv-loop : tie.InvT-loop
 Inv-loop text number parted at₀ k₀ at k = at ≤ length text

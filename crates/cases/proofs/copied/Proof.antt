@@ -1,18 +1,18 @@
--- `places::copied` is safe and ends, and counts bytes of the line.
+-- `cases::copied` is safe and ends, and counts bytes of the line.
 use Prim.Native.Nat.{_-_, _≤_}
 use mathlib.Core.Path.{_≡_, sym}
 use native.Mathlib.Omega.{arith}
 use borrow.Author.Needs.{needs}
 use lib.ListN.{length, length-set}
 use lib.Seq.{length-take-le}
-use Rattle.places.proofs.copied.Statement.{statement}
-use Rattle.places.proofs.copied.Tie as tie
+use Rattle.cases.proofs.copied.Statement.{statement}
+use Rattle.cases.proofs.copied.Tie as tie
 
 abbrev Inv-loop : tie.InvT-loop
-Inv-loop text line₀ draw n₀ line n = (n ≤ length line) × (length line ≡ length line₀)
+Inv-loop text line₀ n₀ line n = (n ≤ length line) × (length line ≡ length line₀)
 
 abbrev μ-loop : tie.MeasureT-loop
-μ-loop text line₀ draw n₀ line n = length text - n
+μ-loop text line₀ n₀ line n = length text - n
 
 returns : tie.Need-returns Inv-loop μ-loop
 returns c = (omega arith, sym (length-take-le (c .before .before .loop .n) (c .before .before .loop .line) (omega arith)))

@@ -1,10 +1,10 @@
--- `runs::number` is safe and ends: a digit is taken in only where the number stays within 64 bits. Assumes nothing.
+-- `cases::number` is safe and ends: a digit is taken in only where the number stays within 64 bits. Assumes nothing.
 use Prim.Native.Nat.{_-_, _≤_}
 use native.Mathlib.Omega.{arith}
 use borrow.Author.Needs.{needs}
 use lib.ListN.{length}
-use Rattle.runs.proofs.number.Statement.{statement}
-use Rattle.runs.proofs.number.Tie as tie
+use Rattle.cases.proofs.number.Statement.{statement}
+use Rattle.cases.proofs.number.Tie as tie
 
 abbrev Inv-loop : tie.InvT-loop
 Inv-loop text n₀ at₀ n at = n ≤ 18_446_744_073_709_551_615
