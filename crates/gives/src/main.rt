@@ -1,16 +1,16 @@
 // Runs each code on a table of elements, those of document 01's examples among them: a line for each case, with its answer or its refusal.
 // Marks are drawn as in the paper, `^` for 254, `]` for 253 and `\` for 252; of long answers only the length is written.
 // That the answers are right is proved of the crates below; this shows them, and what it writes is compared with a stored text.
+use codes::Arithmetic;
 use codes::Credit;
 use codes::Fill;
 use codes::Mask;
+use codes::Operator;
 use codes::Plain;
+use codes::Relation;
 use codes::Separator;
 use dates::TypedDay;
 use libc::STDOUT_FILENO;
-use numbers::Arithmetic;
-use numbers::Operator;
-use numbers::Relation;
 use paper::Given;
 use paper::Limit;
 use paper::Mark;

@@ -156,11 +156,11 @@ module _ {scratch : Bytes} {lens : List ℕ} (slotted : Slotted scratch lens) (l
 
 -- what an operator or `[]` gave on the entries in the slots from k on, put in their place
 module _ (scratch : Bytes) (lens : List ℕ) (k : ℕ) where
-  pub binary-gave : {answer : Given} {work′ second top : Bytes} {o o′ : Binary} (work : Bytes) (stack : List Bytes)
-      → second ≡ entry-at scratch lens k → top ≡ entry-at scratch lens (k + 1) → o′ ≡ o
-      → Gave (limited entry-most (binary-gives o′ second top)) answer work work′
+  pub binary-gave : {answer : Given} {work′ second top : Bytes} (o : Binary) (work : Bytes) (stack : List Bytes)
+      → second ≡ entry-at scratch lens k → top ≡ entry-at scratch lens (k + 1)
+      → Gave (limited entry-most (binary-gives o second top)) answer work work′
       → putting (taken-two scratch lens k) (binary-on o scratch lens k) stack ≡ putting (length second + length top) (handed answer work′) stack
-  binary-gave work stack e e′ q g = rw (gave-handed _ work g, q, e, e′)
+  binary-gave o work stack e e′ g = rw (gave-handed _ work g, e, e′)
 
   pub substring-gave : {answer : Given} {work′ third second top : Bytes} (work : Bytes) (stack : List Bytes)
       → third ≡ entry-at scratch lens k → second ≡ entry-at scratch lens (k + 1) → top ≡ entry-at scratch lens (k + 2)

@@ -26,12 +26,12 @@ use Rattle.machine.specs.Bounds.{
   attribute-within,
   literal-within,
   previous-within,
-  Operator-within,
   multiply-within,
   divide-within,
   rest-within,
   add-within,
   subtract-within,
+  arithmetic-within,
   concatenate-within,
   relate-within,
   Conversion-within,
@@ -214,10 +214,10 @@ module _ (s : Bytes) where
   unfolding place.single-elm
   single-reads =
       choose-reads _
-      (and-all (λ n. reads (binary-within divide-within))
-      (and-all (λ n. reads (binary-within rest-within))
-      (and-all (λ n. reads (binary-within add-within))
-      (and-all (λ n. reads (binary-within subtract-within))
+      (and-all (λ n. reads (binary-within (arithmetic-within divide-within)))
+      (and-all (λ n. reads (binary-within (arithmetic-within rest-within)))
+      (and-all (λ n. reads (binary-within (arithmetic-within add-within)))
+      (and-all (λ n. reads (binary-within (arithmetic-within subtract-within)))
       (and-all (λ n. reads (binary-within concatenate-within))
       (and-all (λ n. reads exchange-within)
       (and-all (λ n. reads duplicate-within)
@@ -235,7 +235,7 @@ module _ (s : Bytes) where
       (and-all (literal-reads 39)
       (and-all (literal-reads 34)
       (and-all (λ n. follow-any (this 80 s n) _ (λ _ j. follow-any (this 86 s j) _ (λ _ k. reads (push-within previous-within))))
-      (and-all (λ n. or-then _ _ (digit-reads s n) (λ d p k. reads (binary-within (multiply-within p))) (reads (binary-within (multiply-within (lit≤ tt)))))
+      (and-all (λ n. or-then _ _ (digit-reads s n) (λ d p k. reads (binary-within (arithmetic-within (multiply-within p)))) (reads (binary-within (arithmetic-within (multiply-within (lit≤ tt))))))
       (and-all (choose-reads _ (and-all (λ n. reads substring-within) none-of) (λ n. reads (binary-within relate-within)))
       (and-all (λ n. follow-then _ (conversion-reads n) (λ c p j. follow-any (this 41 s j) _ (λ _ k. reads (convert-within p)))) none-of))))))
       single-reads

@@ -17,16 +17,16 @@ use Rattle.paper.specs.Steps.{limited}
 use Rattle.paper.specs.Numbers.{number, number-text, compared, holds, concatenate, relate, binary-gives, substring-gives}
 use Rattle.paper.specs.declared.Given.{Given}
 use Rattle.paper.proofs.Numerals.{length-text}
+use Rattle.codes.specs.declared.Relation.{Relation}
+use Rattle.codes.specs.declared.Arithmetic.{Arithmetic}
+use Rattle.codes.specs.declared.Operator.{Operator}
+use Rattle.codes.specs.Meaning.{relation-of, arithmetic-of, operator-of}
 use Rattle.numbers.specs.declared.Number.{Number}
 use Rattle.numbers.specs.declared.Order.{Order}
 use Rattle.numbers.specs.declared.Compared.{Compared}
-use Rattle.numbers.specs.declared.Relation.{Relation}
 use Rattle.numbers.specs.declared.Reckoned.{Reckoned}
-use Rattle.numbers.specs.declared.Arithmetic.{Arithmetic}
-use Rattle.numbers.specs.declared.Operator.{Operator}
 use Rattle.numbers.specs.Forms.{whole}
-use Rattle.numbers.specs.Orders.{order-of, relation-of, compared-gives}
-use Rattle.numbers.specs.Operators.{arithmetic-of, binary-of}
+use Rattle.numbers.specs.Orders.{order-of, compared-gives}
 use Rattle.numbers.specs.Reckonings.{reckoned-gives, calculation}
 use Rattle.numbers.specs.Scans.{truth-byte, skips, takes}
 use Rattle.numbers.proofs.ComparingLaws.{compared-refusal}
@@ -170,6 +170,6 @@ module _ (u s t d : Bytes) where
 
 -- the operator as an arm knows it
 pub as-told : (op told : Operator) (s t d e : Bytes) (r : Given) → op ≡ told
-    → Answered (binary-gives (binary-of told) s t) d e r
-    → Answered (binary-gives (binary-of op) s t) d e r
+    → Answered (binary-gives (operator-of told) s t) d e r
+    → Answered (binary-gives (operator-of op) s t) d e r
 as-told op told s t d e r h k = rw h k

@@ -1,13 +1,13 @@
 // What F's elms give that take entries and reckon: the operators on two of them, and `[]` on three.
-use crate::Arithmetic;
 use crate::Compared;
 use crate::Number;
-use crate::Operator;
 use crate::Reckoned;
-use crate::Relation;
 use crate::comparing;
 use crate::reckoning;
 use crate::writing;
+use codes::Arithmetic;
+use codes::Operator;
+use codes::Relation;
 use paper::Given;
 use paper::Limit;
 ghost use mathlib.Core.List.{_++_};
@@ -19,16 +19,16 @@ ghost use Rattle.paper.specs.Refusals.{given};
 ghost use Rattle.paper.specs.Answers.{given-of, written};
 ghost use Rattle.paper.specs.Numbers.{concatenate, relate, binary-gives, substring-gives};
 ghost use Rattle.paper.specs.Steps.{limited};
+ghost use Rattle.codes.specs.Meaning.{relation-of, arithmetic-of, operator-of};
 ghost use Rattle.numbers.specs.Forms.{whole};
-ghost use Rattle.numbers.specs.Orders.{relation-of};
-ghost use Rattle.numbers.specs.Operators.{arithmetic-of, binary-of, scales, scale-of};
+ghost use Rattle.numbers.specs.Operators.{scales, scale-of};
 ghost use Rattle.numbers.specs.Scans.{truth-byte, skips, takes};
 
 // What the second entry and the top give, at the front of `out`.
 pub fn binary(op: Operator, second: &[u8], top: &[u8], out: &mut [u8]) -> Given
     requires { ⌜ (scale-of op ≤ number-digits) × (entry-most ≤ length (now out)) ⌝ }
-    ensures { λ r. ⌜ r ≡ given-of (limited entry-most (binary-gives (binary-of op) (now (second .entry)) (now (top .entry)))) ⌝ }
-    ensures { λ _. ⌜ now (out .exit) ≡ written (now (out .entry)) (limited entry-most (binary-gives (binary-of op) (now (second .entry)) (now (top .entry)))) ⌝ }
+    ensures { λ r. ⌜ r ≡ given-of (limited entry-most (binary-gives (operator-of op) (now (second .entry)) (now (top .entry)))) ⌝ }
+    ensures { λ _. ⌜ now (out .exit) ≡ written (now (out .entry)) (limited entry-most (binary-gives (operator-of op) (now (second .entry)) (now (top .entry)))) ⌝ }
 {
     match op {
         Operator::Arithmetic(a) => compute(a, second, top, out),
