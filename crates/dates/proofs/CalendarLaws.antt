@@ -13,8 +13,8 @@ use Rattle.paper.specs.Bytes.{if_then_else_}
 use Rattle.paper.specs.Dates.{Date, leap, month-lengths, days-before-year, days-in, days-to, year-of, month-day}
 use Rattle.paper.specs.TypedDates.{in-calendar}
 use Rattle.paper.proofs.Calendar.{all-within, both, lengths-by, lengths-are, month-most-by, months-fill, year-length, twelve, year-day-at}
+use Rattle.numbers.proofs.Table.{below, passed}
 use Rattle.dates.specs.Dated.{code-date}
-use Rattle.dates.proofs.Tables.{below, passed}
 
 -- the year after the one that division gives, or that one
 pub year-next : (n : ℕ) → days-before-year (n * 400 / 146_097 + 1 + 1) ≤ n → n * 400 / 146_097 + 1 + 1 ≡ year-of n
