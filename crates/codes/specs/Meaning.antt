@@ -6,6 +6,7 @@ use Rattle.paper.specs.Bytes.{Bytes}
 use Rattle.paper.specs.Numbers as numbers
 use Rattle.paper.specs.Codes as paper
 use Rattle.codes.specs.declared.Relation.{Relation}
+use Rattle.codes.specs.declared.Arithmetic.{Arithmetic}
 use Rattle.codes.specs.declared.Operator.{Operator}
 use Rattle.codes.specs.declared.Credit.{Credit}
 use Rattle.codes.specs.declared.Fill.{Fill}
@@ -25,12 +26,15 @@ relation-of Relation.Lesser = numbers.lesser
 relation-of Relation.AtLeast = numbers.at-least
 relation-of Relation.AtMost = numbers.at-most
 
+unfoldable pub arithmetic-of : Arithmetic → numbers.Binary
+arithmetic-of (Arithmetic.Multiply n) = numbers.multiply n
+arithmetic-of Arithmetic.Divide = numbers.divide
+arithmetic-of Arithmetic.Rest = numbers.rest
+arithmetic-of Arithmetic.Add = numbers.add
+arithmetic-of Arithmetic.Subtract = numbers.subtract
+
 unfoldable pub operator-of : Operator → numbers.Binary
-operator-of (Operator.Multiply n) = numbers.multiply n
-operator-of Operator.Divide = numbers.divide
-operator-of Operator.Rest = numbers.rest
-operator-of Operator.Add = numbers.add
-operator-of Operator.Subtract = numbers.subtract
+operator-of (Operator.Arithmetic a) = arithmetic-of a
 operator-of Operator.Concatenate = numbers.concatenate
 operator-of (Operator.Relate r) = numbers.relate (relation-of r)
 

@@ -12,13 +12,18 @@ pub enum Relation {
     AtMost,
 }
 
-// The elms that take two entries and put one: `*` is Multiply(0), `*n` Multiply(n).
-pub enum Operator {
+// `*` and `*n` (`*` is `*0`), `/` `R` `+` `-`.
+pub enum Arithmetic {
     Multiply(u64),
     Divide,
     Rest,
     Add,
     Subtract,
+}
+
+// The elms that take two entries and put one.
+pub enum Operator {
+    Arithmetic(Arithmetic),
     Concatenate,
     Relate(Relation),
 }

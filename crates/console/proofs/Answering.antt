@@ -2,17 +2,17 @@
 use Prim.Native.Nat.{ℕ, _+_, _-_, _≤_}
 use mathlib.Core.Path.{_≡_, refl, sym, ap, _∙_}
 use mathlib.Core.Bool.{Bool, true, false}
-use mathlib.Core.List.{List, [], _∷_, _++_}
+use mathlib.Core.List.{List, [], _∷_}
 use mathlib.Core.Option.{Option, none, some}
-use lib.ListN.{length, take, drop, replicate, length-replicate}
+use lib.ListN.{length, take, replicate, length-replicate}
 use lib.Dec.{leb}
 use lib.Seq.{take-at}
 use native.Mathlib.Omega.{arith}
 use borrow.Author.Tests.{leb-true}
-use Rattle.paper.specs.Bytes.{Bytes, if_then_else_, buffer, bytes}
-use Rattle.paper.specs.Sizes.{number-digits, number-most, record-most, entry-most, scratch-least}
+use Rattle.paper.specs.Bytes.{Bytes, buffer, bytes}
+use Rattle.paper.specs.Sizes.{number-most, record-most, entry-most, scratch-least}
 use Rattle.paper.specs.Codes.{Code}
-use Rattle.paper.specs.Refusals.{Res, given, refused, refusal-of, answer-of, refuse_unless_, short-output}
+use Rattle.paper.specs.Refusals.{Res, given, refused, refusal-of, answer-of}
 use Rattle.paper.specs.Grammar.{all-read}
 use Rattle.paper.specs.Converting.{Outcome, fitted, finished, carried-out, within-budget, ready, convert, output-after}
 use Rattle.paper.specs.Program.{Address, program-budget, line, address-form, printed, answered, program}

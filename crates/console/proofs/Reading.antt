@@ -1,13 +1,11 @@
 -- The lines of the input by place: a line ends where `next_mark` says, and the next one begins behind it.
-use Prim.Native.Nat.{ℕ, zero, suc, _+_, _-_, _≤_, _<_}
+use Prim.Native.Nat.{ℕ, zero, suc, _+_, _-_, _≤_}
 use mathlib.Core.Path.{_≡_, refl, sym, ap, _∙_}
 use mathlib.Core.Bool.{Bool, true, false}
 use mathlib.Core.List.{List, [], _∷_}
-use mathlib.Core.Option.{Option, none, some}
-use lib.ListN.{length, take, drop, length-take, length-drop, drop-of-length-le}
+use lib.ListN.{length, take, drop, length-drop, drop-of-length-le}
 use lib.Dec.{eqb}
-use lib.Seq.{take-all, drop-drop}
-use native.Mathlib.Nat.{le-refl}
+use lib.Seq.{drop-drop}
 use native.Mathlib.Omega.{arith}
 use Rattle.paper.specs.Bytes.{Bytes, if_then_else_, within}
 use Rattle.paper.specs.Records.{opened, split, nth, first-of}

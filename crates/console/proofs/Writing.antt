@@ -1,13 +1,13 @@
 -- The line that is written: its parts one behind the other, and its length.
-use Prim.Native.Nat.{ℕ, suc, _+_, _≤_}
-use mathlib.Core.Path.{_≡_, refl, sym, ap, _∙_}
-use mathlib.Core.List.{List, [], _∷_, _++_, map, append-assoc}
+use Prim.Native.Nat.{ℕ, _+_, _≤_}
+use mathlib.Core.Path.{_≡_, sym, ap, _∙_}
+use mathlib.Core.List.{[], _∷_, _++_, map, append-assoc}
 use lib.ListN.{length, take, drop, getD, replicate, length-append, length-map, List·getD-map}
 use lib.Seq.{append-snoc}
 use native.Mathlib.Omega.{arith}
 use borrow.Author.Tests.{ne-eqb}
 use Rattle.paper.specs.Bytes.{Bytes}
-use Rattle.paper.specs.Sizes.{number-digits, number-most, record-most}
+use Rattle.paper.specs.Sizes.{number-digits, record-most}
 use Rattle.paper.specs.Refusals.{refusal-of, answer-of}
 use Rattle.paper.specs.Numbers.{decimal}
 use Rattle.paper.specs.Converting.{Outcome}

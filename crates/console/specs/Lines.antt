@@ -1,6 +1,6 @@
 -- The line that the program writes, in its parts.
 use Prim.Native.Nat.{ℕ, _+_}
-use mathlib.Core.List.{List, [], _∷_, _++_, map}
+use mathlib.Core.List.{[], _∷_, _++_, map}
 use Rattle.paper.specs.Bytes.{Bytes, ch}
 use Rattle.paper.specs.Sizes.{number-digits, record-most}
 use Rattle.paper.specs.Numbers.{decimal}

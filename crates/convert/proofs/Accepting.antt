@@ -1,5 +1,4 @@
 -- A check that reports refusal 0 has accepted the string. Assumes nothing.
-use Prim.Native.Nat.{ℕ}
 use mathlib.Core.Path.{_≡_, refl}
 use Rattle.paper.specs.Bytes.{Bytes}
 use Rattle.paper.specs.Checking.{Checked, accepted, faulty, check, report}

@@ -1,14 +1,13 @@
 -- Demand 3 in the call's own terms: what the laws of the definitions say of the numbers that `convert` answers. Assumes nothing.
 use Prim.Native.Nat.{ℕ, _≤_, _<_}
 use mathlib.Core.Path.{_≡_, sym, ap, _∙_}
-use native.Mathlib.Omega.{arith}
 use lib.ListN.{length}
 use mathlib.Core.Logic.{_≢_}
 use Rattle.paper.specs.Bytes.{Bytes}
 use Rattle.paper.specs.Sizes.{entry-most}
 use Rattle.paper.specs.Refusals.{over-budget, stack-fault}
 use Rattle.paper.specs.Checking.{check, report}
-use Rattle.paper.specs.Converting.{Outcome, elements, convert, convert-freely, output-after, ceiling}
+use Rattle.paper.specs.Converting.{elements, convert, convert-freely, ceiling}
 use Rattle.paper.proofs.Predicates.{All}
 use Rattle.paper.proofs.Budget.{converting-within-budget, converting-over-budget}
 use Rattle.paper.proofs.Ceiling.{steps-within-ceiling}

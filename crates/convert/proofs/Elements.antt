@@ -1,24 +1,24 @@
 -- One element of an address against its outcome: over-long, or put into its slot and run; and its answer gathered. Assumes nothing.
-use Prim.Native.Nat.{ℕ, suc, _+_, _^_, _≤_, _<_}
+use Prim.Native.Nat.{ℕ, _+_, _^_, _≤_, _<_}
 use mathlib.Core.Path.{_≡_, refl, sym, ap, _∙_, subst}
-use mathlib.Core.Bool.{Bool, true, false}
-use mathlib.Core.List.{List, []}
+use mathlib.Core.Bool.{Bool}
+use mathlib.Core.List.{List}
 use native.Mathlib.Omega.{arith}
-use lib.ListN.{length, getD, take, length-take}
-use lib.Dec.{leb, lit<}
-use borrow.Author.Tests.{le-leb, lt-leb, leb-true}
+use lib.ListN.{length, length-take}
+use lib.Dec.{lit<}
+use borrow.Author.Tests.{le-leb, lt-leb}
 use Rattle.paper.specs.Bytes.{Bytes, if_then_else_}
 use Rattle.paper.specs.Sizes.{entry-most}
-use Rattle.paper.specs.Refusals.{Res, given, refused, answer-of, over-budget}
-use Rattle.paper.specs.Steps.{Run, done, stop, step, codes-run, element-run}
+use Rattle.paper.specs.Refusals.{Res, given, refused}
+use Rattle.paper.specs.Steps.{stop, codes-run, element-run}
 use Rattle.paper.specs.Converting.{Outcome, within-budget}
-use Rattle.machine.specs.Slots.{Slotted, Lent, element-slot, slots, entry-at, put-in, put-length}
-use Rattle.paper.specs.Checking.{Checked, check, accepted}
-use Rattle.machine.specs.Runs.{ran-of, Answers, Runs, checked-run}
+use Rattle.machine.specs.Slots.{Slotted, element-slot, entry-at, put-in, put-length}
+use Rattle.paper.specs.Checking.{Checked, check}
+use Rattle.machine.specs.Runs.{ran-of, Runs, checked-run}
 use Rattle.machine.specs.declared.Ran.{Ran}
 use Rattle.machine.proofs.Laws.{put-same, put-slotted}
 use Rattle.convert.specs.Gather.{gathered-in}
-use Rattle.convert.specs.Running.{codes-in, Accepts, element-outcome, added, added-out, Adds}
+use Rattle.convert.specs.Running.{codes-in, Accepts, element-outcome, Adds}
 use Rattle.convert.specs.declared.Walked.{Walked}
 
 -- the code's limit is the definitions'

@@ -1,6 +1,6 @@
 -- The answer of an address grows element by element, and the run of those left goes on from what is gathered. Assumes nothing.
 use Prim.Native.Nat.{ℕ}
-use mathlib.Core.Path.{_≡_, refl, sym, ap, _∙_}
+use mathlib.Core.Path.{_≡_, ap, _∙_}
 use mathlib.Core.List.{List, [], _∷_, _++_, append-assoc, append-nil}
 use Rattle.paper.specs.Bytes.{Bytes}
 use Rattle.paper.specs.Codes.{Code}

@@ -1,12 +1,12 @@
 -- The loop over the elements: what is known at each turn, and how a turn ends or leads to the next. Assumes nothing.
-use Prim.Native.Nat.{ℕ, zero, suc, _+_, _-_, _*_, _^_, _≤_, _<_}
+use Prim.Native.Nat.{ℕ, _+_, _-_, _*_, _^_, _≤_, _<_}
 use mathlib.Core.Path.{_≡_, refl, sym, ap, _∙_, subst, subst₃}
 use mathlib.Core.Bool.{Bool, true, false}
-use mathlib.Core.List.{List, [], _∷_, _++_, append-nil}
+use mathlib.Core.List.{List, [], _∷_, _++_}
 use native.Mathlib.Omega.{arith}
 use native.Mathlib.Numerals.{add-one}
 use lib.ListN.{length, take, drop, getD, length-append, length-drop, length-take, drop-of-length-le}
-use lib.Seq.{take-all, drop-drop, drop-cons}
+use lib.Seq.{drop-drop, drop-cons}
 use lib.Dec.{leb, eqb}
 use borrow.Author.Tests.{leb-true, eqb-true, eqb-false}
 use Rattle.paper.specs.Bytes.{Bytes, if_then_else_, within}
@@ -19,7 +19,7 @@ use Rattle.paper.proofs.Ranges.{within-true}
 use Rattle.lent.proofs.Scans.{range-rest, length-upto}
 use Rattle.records.proofs.Laws.{take-upto}
 use Rattle.machine.specs.Slots.{Slotted}
-use Rattle.convert.specs.Gather.{gathered-in, Holds-answer, walks, walked-of}
+use Rattle.convert.specs.Gather.{gathered-in, Holds-answer, walked-of}
 use Rattle.convert.specs.Walk.{walked}
 use Rattle.convert.specs.Running.{codes-in, element-outcome, elements-outcome, added, added-out, position, passed, Adds, Walks}
 use types.Run.{OneOf}

@@ -1,5 +1,5 @@
 -- Converting in its stages: the tests before the run, each with its own outcome, and the run. Assumes nothing.
-use Prim.Native.Nat.{ℕ, zero, suc, _+_, _≤_, _<_}
+use Prim.Native.Nat.{ℕ, zero, suc, _≤_, _<_}
 use mathlib.Core.Path.{_≡_, refl, sym, ap, _∙_, subst}
 use mathlib.Core.Bool.{Bool, true, false, _&&_}
 use mathlib.Core.List.{List, [], _∷_}
@@ -10,26 +10,10 @@ use lib.Dec.{leb, ltb, eqb, lit≤}
 use borrow.Author.Tests.{le-leb, lt-leb, leb-true, lt-ltb, eq-eqb}
 use Rattle.paper.specs.Bytes.{Bytes, any, buffer}
 use Rattle.paper.specs.Sizes.{entry-most, record-most, attribute-most, position-most, scratch-least, is-outer-mark}
-use Rattle.paper.specs.Refusals.{Res, given, refused, _>>=_, _>>_, refuse_unless_, refuse_when_, over-long-record, bad-byte, bad-address, short-scratch}
-use Rattle.paper.specs.Codes.{Code}
-use Rattle.paper.specs.Records.{lawful-record, lawful-address, lawful-id, path, reads, Part, Turn, whole, part-at, text-or-empty}
+use Rattle.paper.specs.Refusals.{Res, given, refused, _>>_, refuse_unless_, refuse_when_, over-long-record, bad-byte, bad-address, short-scratch}
+use Rattle.paper.specs.Records.{lawful-record, lawful-address, lawful-id, path, reads, Part, Turn, whole, text-or-empty}
 use Rattle.paper.specs.Checking.{Checked, accepted, faulty, check, checked-codes}
-use Rattle.paper.specs.Converting.{
-  Outcome,
-  within-budget,
-  from-one,
-  elements,
-  elements-run,
-  run,
-  lawful-place,
-  lawful-code,
-  ready,
-  finished,
-  carried-out,
-  convert,
-  output-after,
-  scratch-after,
-}
+use Rattle.paper.specs.Converting.{Outcome, within-budget, from-one, elements-run, run, lawful-place, lawful-code, ready, finished, carried-out, convert, output-after, scratch-after}
 use Rattle.paper.proofs.Refusing.{Passed, passed, when-passed}
 use Rattle.paper.proofs.Predicates.{and-all}
 use Rattle.paper.proofs.Splitting.{Told, absent, present, Inside, inside-bounds, part-at-inside}
@@ -38,7 +22,7 @@ use Rattle.machine.specs.Slots.{Slotted}
 use Rattle.records.specs.Found.{lawful-find}
 use Rattle.grammar.specs.Checking.{verdict-of}
 use Rattle.grammar.specs.declared.Verdict.{Verdict}
-use Rattle.convert.specs.Gather.{converted-of, refused-at-once, finished-as, finished-out, walked-of}
+use Rattle.convert.specs.Gather.{converted-of, refused-at-once, finished-as, finished-out}
 use types.Run.{OneOf}
 use denote.Enum.Declared.{tagOf}
 use Rattle.grammar.proofs.Verdict.{the-type}

@@ -1,17 +1,15 @@
 -- One turn of the walk over the elements: from the outcome of its element to the end, or to the elements left. Assumes nothing.
-use Prim.Native.Nat.{ℕ, zero, suc, _+_}
-use mathlib.Core.Path.{_≡_, refl, sym, ap, _∙_}
-use mathlib.Core.Bool.{Bool, true, false}
-use mathlib.Core.List.{List, [], _∷_, _++_, append-assoc, append-nil}
+use Prim.Native.Nat.{ℕ, suc, _+_}
+use mathlib.Core.Path.{_≡_, sym, ap, _∙_}
+use mathlib.Core.List.{List, [], _∷_, _++_, append-nil}
 use lib.ListN.{length, drop}
-use lib.Dec.{eqb}
-use Rattle.paper.specs.Bytes.{Bytes, if_then_else_}
+use Rattle.paper.specs.Bytes.{Bytes}
 use Rattle.paper.specs.Sizes.{value-mark, subvalue-mark}
-use Rattle.paper.specs.Refusals.{Res, given, refused}
+use Rattle.paper.specs.Refusals.{given, refused}
 use Rattle.paper.specs.Codes.{Code}
-use Rattle.paper.specs.Steps.{Run, done, onward, element-run}
+use Rattle.paper.specs.Steps.{element-run}
 use Rattle.paper.specs.Converting.{Element, Outcome, within-budget}
-use Rattle.paper.proofs.Runs.{onward-same, resumed-from, resumed, budget-onward}
+use Rattle.paper.proofs.Runs.{onward-same, resumed, budget-onward}
 use Rattle.convert.specs.Walk.{element, walked}
 use Rattle.convert.proofs.Gathering.{gathered, gathered-end, gathered-more}
 use Rattle.convert.proofs.Walking.{behind, first-text, walked-first}

@@ -12,7 +12,7 @@ use lib.ListN.{length, drop}
 use Rattle.paper.specs.Bytes.{Bytes, if_then_else_, within}
 use Rattle.lent.specs.Scan.{upto}
 use Rattle.paper.specs.Sizes.{attribute-mark, value-mark, subvalue-mark}
-use Rattle.paper.specs.Records.{opened, split, Part, placed, pieces, nth, and-then, path, part-at, whole, place, reads, text-or-empty}
+use Rattle.paper.specs.Records.{opened, split, Part, placed, pieces, nth, path, part-at, whole, place, reads, text-or-empty}
 use Rattle.paper.proofs.Predicates.{All, none-of, and-all, all-both}
 use Rattle.paper.specs.Converting.{Element, subvalues, values, from-one, elements-in, elements-of, elements}
 use Rattle.paper.proofs.Splitting.{Filled, filled, split-filled, Free, split-last, split-free, split-without, Told, absent, present, told-then, nth-told}

@@ -1,9 +1,9 @@
 -- The answer as it grows in the lent output, and the output in the end.
-use Prim.Native.Nat.{ℕ, zero, suc, _+_, _-_, _≤_}
+use Prim.Native.Nat.{ℕ, _+_, _-_, _≤_}
 use mathlib.Core.Path.{_≡_}
-use mathlib.Core.List.{List, [], _∷_, _++_}
+use mathlib.Core.List.{_++_}
 use lib.ListN.{length, take, replicate}
-use lib.Dec.{leb, ltb, eqb}
+use lib.Dec.{leb}
 use Rattle.paper.specs.Bytes.{Bytes, if_then_else_}
 use Rattle.paper.specs.Refusals.{Res, given, refused, refusal-of, answer-of, short-output}
 use Rattle.paper.specs.Converting.{Outcome}

@@ -1,6 +1,5 @@
 -- The elements of an address as one walk from left to right sees them. Furniture for the proofs: proofs/Walking.antt ties it to `elements`.
 use Prim.Native.Nat.{ℕ, suc}
-use mathlib.Core.Bool.{Bool, true, false}
 use mathlib.Core.List.{List, [], _∷_}
 use lib.Dec.{eqb}
 use Rattle.paper.specs.Bytes.{Bytes, if_then_else_}

@@ -1,6 +1,6 @@
 -- The year and the month of a day by a division and one comparison are those of the definitions. Assumes nothing.
 use Prim.Native.Nat.{ℕ, zero, suc, _+_, _-_, _*_, _/_, _≤_, _<_}
-use mathlib.Core.Path.{_≡_, refl, ap}
+use mathlib.Core.Path.{_≡_, refl}
 use mathlib.Core.Bool.{Bool, true, false, _&&_, and-true, and-false}
 use mathlib.Core.List.{List, [], _∷_}
 use native.Mathlib.Nat.{not-suc-le-zero}
@@ -13,8 +13,8 @@ use Rattle.paper.specs.Bytes.{if_then_else_}
 use Rattle.paper.specs.Dates.{Date, leap, month-lengths, days-before-year, days-in, days-to, year-of, month-day}
 use Rattle.paper.specs.TypedDates.{in-calendar}
 use Rattle.paper.proofs.Calendar.{all-within, both, lengths-by, lengths-are, month-most-by, months-fill, year-length, twelve, year-day-at}
+use Rattle.numbers.proofs.Table.{below, passed}
 use Rattle.dates.specs.Dated.{code-date}
-use Rattle.dates.proofs.Tables.{below, passed}
 
 -- the year after the one that division gives, or that one
 pub year-next : (n : ℕ) → days-before-year (n * 400 / 146_097 + 1 + 1) ≤ n → n * 400 / 146_097 + 1 + 1 ≡ year-of n

@@ -11,11 +11,10 @@ use lib.Seq.{append-snoc, set-split}
 use lib.Dec.{leb}
 use borrow.Author.Tests.{le-leb, lt-leb, leb-true}
 use Rattle.paper.specs.Bytes.{Bytes, if_then_else_}
-use Rattle.paper.specs.Sizes.{entry-most, number-most}
-use Rattle.paper.specs.Refusals.{Res, given, refused, refuse_unless_, _>>_, _>>=_}
+use Rattle.paper.specs.Sizes.{entry-most}
+use Rattle.paper.specs.Refusals.{Res, given, refused, refuse_unless_, _>>_}
 use Rattle.paper.specs.Answers.{given-of, written}
-use Rattle.paper.specs.Numbers.{Number, numeric, ranged, digits}
-use Rattle.paper.specs.Masks.{on-number, number-gives}
+use Rattle.paper.specs.Numbers.{Number, numeric, digits}
 use Rattle.paper.specs.Steps.{limited}
 use Rattle.paper.specs.Dates.{Date, month-names, ranged-day, year-text, date-of, date-text, date-gives}
 use Rattle.paper.specs.declared.Given.the-variants.{Length, Refused}
@@ -24,7 +23,8 @@ use Rattle.paper.proofs.Numerals.{length-digits}
 use Rattle.lent.specs.Over.{over}
 use Rattle.lent.proofs.Laws.{over-is, over-none, length-over, over-front, over-over}
 use Rattle.numbers.specs.declared.Form.{Form}
-use Rattle.numbers.specs.Forms.{whole, coded, form-of}
+use Rattle.numbers.specs.Forms.{whole, form-of}
+use Rattle.numbers.proofs.FormLaws.{by-form, empty-stays, form-decides}
 use Rattle.dates.specs.declared.Date.{Date as Coded-date}
 use Rattle.dates.specs.declared.Ranged.{Ranged}
 use Rattle.dates.specs.Dated.{code-date, ranged-of}
@@ -196,29 +196,8 @@ limited-dated n s k outside = refl
 
 -- "Empty stays empty"
 pub limited-empty : (n : ℕ) (s : Option ℕ) (e : Bytes) → length e ≡ 0 → limited entry-most (date-gives n s e) ≡ given []
-unfolding limited entry-most date-gives number-gives
-limited-empty n s [] h = refl
-limited-empty n s (b ∷ bs) h = absurd (omega arith)
-
--- what a number code gives on other elements, by their numeric form
-abbrev pub by-form : (Number → Res Bytes) → Form → Res Bytes
-by-form f (Form.Number x) = f (whole x)
-by-form f Form.TooLarge = refused 10
-by-form f Form.NotNumeric = refused 12
-
-form-decides : (f : Number → Res Bytes) (e : Bytes) → (length e ≡ 0 → ⊥) → number-gives f e ≡ by-form f (form-of (numeric e))
-unfolding number-gives form-of ranged
-form-decides f [] h = absurd (h refl)
-form-decides f (b ∷ bs) h = go (numeric (b ∷ bs))
-  where
-    size : (t : Bool) (x : Number)
-        → ((refuse 10 unless t) >> given x >>= f) ≡ by-form f (if t then Form.Number (coded x) else Form.TooLarge)
-    size true x = refl
-    size false x = refl
-
-    go : (o : Option Number) → on-number f o ≡ by-form f (form-of o)
-    go none = refl
-    go (some x) = size (leb (x .size) number-most) x
+unfolding limited entry-most date-gives dated-text
+limited-empty n s e h = ap (limited entry-most) (empty-stays (λ x. dated-text n s (ranged-day x)) e h)
 
 limited-form : (n : ℕ) (s : Option ℕ) (r : Form) → n ≤ 4
     → limited entry-most (by-form (λ x. dated-text n s (ranged-day x)) r) ≡ by-form (λ x. dated-text n s (ranged-day x)) r
@@ -232,5 +211,5 @@ pub gives-by : (n : ℕ) (s : Option ℕ) (e : Bytes) (r : Form) → n ≤ 4 →
     → limited entry-most (date-gives n s e) ≡ by-form (λ x. dated-text n s (ranged-day x)) r
 unfolding date-gives dated-text
 gives-by n s e r k h f =
-    ap (limited entry-most) (form-decides (λ x. dated-text n s (ranged-day x)) e h ∙ ap (by-form (λ x. dated-text n s (ranged-day x))) (sym f))
+    ap (limited entry-most) (form-decides (λ x. dated-text n s (ranged-day x)) e h f)
     ∙ limited-form n s r k

@@ -1,10 +1,8 @@
 -- The rule of each table, proved at all of its entries by one test that is computed. Assumes nothing.
-use Prim.Native.Nat.{ℕ, zero, suc, _+_, _*_, _≤_, _<_}
+use Prim.Native.Nat.{ℕ, _+_, _*_, _≤_, _<_}
 use mathlib.Core.Path.{_≡_, refl, ap₂}
 use mathlib.Core.Bool.{Bool, true, false, _&&_, false≢true}
 use mathlib.Core.List.{List, [], _∷_}
-use mathlib.Core.Logic.{_⊎_, inl, inr}
-use native.Mathlib.Nat.{not-suc-le-zero, eq-or-lt-of-le, le-of-suc-le-suc}
 use native.Mathlib.Omega.{arith}
 use lib.ListN.{getD, take, drop}
 use lib.Dec.{eqb, ltb}
@@ -12,19 +10,7 @@ use borrow.Author.Tests.{eqb-true}
 use Rattle.paper.specs.Bytes.{if_then_else_, bytes, same-bytes}
 use Rattle.paper.specs.Dates.{leap, month-lengths, month-names, days-in}
 use Rattle.paper.proofs.Calendar.{both, lengths-by, lengths-are, within-all}
-
--- the test passes at every number below n
-abbrev pub below : (ℕ → Bool) → ℕ → Bool
-below f zero = true
-below f (suc n) = f n && below f n
-
-pub passed : (f : ℕ → Bool) (n k : ℕ) → below f n ≡ true → k < n → f k ≡ true
-passed f zero k t h = absurd (not-suc-le-zero h)
-passed f (suc n) k t h = go (passed f n k (both (f n) (below f n) t .1)) (eq-or-lt-of-le (le-of-suc-le-suc h))
-  where
-    go : (k < n → f k ≡ true) → (k ≡ n) ⊎ (k < n) → f k ≡ true
-    go onward (inl e) = rw e (both (f n) (below f n) t .0)
-    go onward (inr l) = onward l
+use Rattle.numbers.proofs.Table.{below, passed}
 
 -- the lengths of the months of a common year
 abbrev pub lengths : List ℕ

@@ -8,7 +8,6 @@ use native.Mathlib.Numerals.{add-one}
 use native.Mathlib.Omega.{arith}
 use lib.ListN.{length, drop, getD, length-drop, drop-of-length-le}
 use lib.Seq.{drop-cons}
-use lib.Dec.{leb}
 use borrow.Author.Tests.{le-leb, lt-leb, lt-ltb, eq-eqb, ne-eqb}
 use Rattle.paper.specs.Bytes.{Bytes, if_then_else_, is-digit, is-lower, digit-value}
 use Rattle.paper.specs.Texts.{raised}

@@ -131,13 +131,6 @@ fn say_lengths(second: &[u8], top: &[u8], elm: &[u8]) {
     say_number(top.len() as u64);
 }
 
-// What an operator gives on the second entry and the top; here alone it becomes one of `numbers`.
-fn binary(op: Operator, second: &[u8], top: &[u8], out: &mut [u8]) -> Given
-    requires { ⌜ Operator-within op × (entry-most ≤ length (now out)) ⌝ }
-{
-    numbers::entries::binary(machine::giving::as_operator(op), second, top, out)
-}
-
 fn show_binary(second: &[u8], top: &[u8], op: Operator, elm: &[u8])
     requires { ⌜ Operator-within op ⌝ }
 {
@@ -147,7 +140,7 @@ fn show_binary(second: &[u8], top: &[u8], op: Operator, elm: &[u8])
     } else {
         say_two(second, top, elm);
     }
-    let given = binary(op, second, top, &mut out);
+    let given = numbers::entries::binary(op, second, top, &mut out);
     say_given(given, &out, long(second));
 }
 

@@ -1,6 +1,6 @@
 -- A typed address: read by place it is what the paper reads, and the whole text must be read.
 use Prim.Native.Nat.{ℕ, _≤_}
-use mathlib.Core.Path.{_≡_, refl, sym, ap, _∙_}
+use mathlib.Core.Path.{_≡_, refl, ap}
 use mathlib.Core.Option.{Option, none, some}
 use lib.ListN.{length, drop, length-drop}
 use native.Mathlib.Omega.{arith}
@@ -8,7 +8,7 @@ use borrow.Author.Tests.{eq-eqb, ne-eqb}
 use Rattle.paper.specs.Bytes.{Bytes}
 use Rattle.paper.specs.Grammar as paper
 use Rattle.paper.specs.Program.{Address, address-form}
-use Rattle.grammar.specs.Places.{Placed, follow, gives, this, numeral}
+use Rattle.grammar.specs.Places.{Placed, follow, this, numeral}
 use Rattle.grammar.specs.Addresses.{another, address, address-read}
 use Rattle.grammar.specs.declared.ReadAddress.{ReadAddress}
 use Rattle.grammar.proofs.Agreement.{Agree, neither, both, Agrees, gives-agrees, follow-agrees, numeral-agrees, this-agrees}

@@ -13,8 +13,9 @@ use Rattle.paper.specs.Sizes.{is-mark}
 use Rattle.paper.specs.Grammar as paper
 use Rattle.paper.specs.Codes as codes
 use Rattle.paper.specs.Numbers as numbers
-use Rattle.codes.specs.Meaning.{relation-of, operator-of, credit-of, fill-of, mask-of, plain-of, separator-of, conversion-of, repeat-of, operand-of, elm-of}
+use Rattle.codes.specs.Meaning.{relation-of, arithmetic-of, operator-of, credit-of, fill-of, mask-of, plain-of, separator-of, conversion-of, repeat-of, operand-of, elm-of}
 use Rattle.codes.specs.declared.Relation.{Relation}
+use Rattle.codes.specs.declared.Arithmetic.{Arithmetic}
 use Rattle.codes.specs.declared.Operator.{Operator}
 use Rattle.codes.specs.declared.Credit.{Credit}
 use Rattle.codes.specs.declared.Fill.{Fill}
@@ -215,8 +216,8 @@ module _ {s : Bytes} {low : ℕ} where
   previous-agrees = follow-agrees _ _ (this-agrees 80 tt) (λ _. follow-agrees _ _ (this-agrees 86 tt) (λ _. gives-agrees (Elm.Push Operand.Previous)))
 
   multiply-agrees : Agrees (elm-of s) s low place.multiply-elm paper.multiply-elm
-  unfolding place.multiply-elm paper.multiply-elm elm-of operator-of
-  multiply-agrees = digit-aheads (λ d. gives-agrees (Elm.Binary (Operator.Multiply d))) (gives-agrees (Elm.Binary (Operator.Multiply 0)))
+  unfolding place.multiply-elm paper.multiply-elm elm-of operator-of arithmetic-of
+  multiply-agrees = digit-aheads (λ d. gives-agrees (Elm.Binary (Operator.Arithmetic (Arithmetic.Multiply d)))) (gives-agrees (Elm.Binary (Operator.Arithmetic (Arithmetic.Multiply 0))))
 
   bracket-agrees : Agrees (elm-of s) s low place.bracket-elm paper.bracket-elm
   unfolding place.bracket-elm paper.bracket-elm elm-of operator-of relation-of
@@ -246,13 +247,13 @@ single-options =
 -- An elm eats a byte at least.
 module _ {s : Bytes} {low : ℕ} (at : ℕ) (g : low ≤ suc at) (h : at ≤ length s) where
   single-agrees : Agree (elm-of s) s low (place.single-elm s at) (paper.choose single-options (drop at s))
-  unfolding place.single-elm paper.choose elm-of operator-of relation-of
+  unfolding place.single-elm paper.choose elm-of operator-of arithmetic-of relation-of
   single-agrees =
       choose-agrees fails paper.fails at tt g h
-      (option (gives-agrees (Elm.Binary Operator.Divide))
-      (option (gives-agrees (Elm.Binary Operator.Rest))
-      (option (gives-agrees (Elm.Binary Operator.Add))
-      (option (gives-agrees (Elm.Binary Operator.Subtract))
+      (option (gives-agrees (Elm.Binary (Operator.Arithmetic Arithmetic.Divide)))
+      (option (gives-agrees (Elm.Binary (Operator.Arithmetic Arithmetic.Rest)))
+      (option (gives-agrees (Elm.Binary (Operator.Arithmetic Arithmetic.Add)))
+      (option (gives-agrees (Elm.Binary (Operator.Arithmetic Arithmetic.Subtract)))
       (option (gives-agrees (Elm.Binary Operator.Concatenate))
       (option (gives-agrees Elm.Exchange)
       (option (gives-agrees Elm.Duplicate)

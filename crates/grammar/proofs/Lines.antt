@@ -14,6 +14,7 @@ use Rattle.codes.specs.declared.Credit.{Credit}
 use Rattle.codes.specs.declared.Fill.{Fill}
 use Rattle.codes.specs.declared.Separator.{Separator}
 use Rattle.codes.specs.declared.Conversion.{Conversion}
+use Rattle.codes.specs.declared.Arithmetic.{Arithmetic}
 use Rattle.codes.specs.declared.Operator.{Operator}
 use Rattle.codes.specs.declared.Repeat.{Repeat}
 use Rattle.codes.specs.declared.Operand.{Operand}
@@ -226,11 +227,11 @@ module _ (s : Bytes) (at : ℕ) where
   literal-open q e = ap (placed-literal at) e
 
   -- "`*` or `*` and a digit"
-  pub multiply-alone : digit s at ≡ none → multiply-elm s at ≡ some (Elm.Binary (Operator.Multiply 0), at)
+  pub multiply-alone : digit s at ≡ none → multiply-elm s at ≡ some (Elm.Binary (Operator.Arithmetic (Arithmetic.Multiply 0)), at)
   unfolding multiply-elm
   multiply-alone e = rw e
 
-  pub multiply-digit : (d n : ℕ) → digit s at ≡ some (d, n) → multiply-elm s at ≡ some (Elm.Binary (Operator.Multiply d), n)
+  pub multiply-digit : (d n : ℕ) → digit s at ≡ some (d, n) → multiply-elm s at ≡ some (Elm.Binary (Operator.Arithmetic (Arithmetic.Multiply d)), n)
   unfolding multiply-elm
   multiply-digit d n e = rw e
 

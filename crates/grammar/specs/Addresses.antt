@@ -3,7 +3,7 @@ use Prim.Native.Nat.{ℕ}
 use mathlib.Core.Option.{Option, none, some}
 use Rattle.paper.specs.Bytes.{ch}
 use Rattle.paper.specs.Program.{Address}
-use Rattle.grammar.specs.Places.{Placed, follow, _>>=_, _>>_, gives, this, numeral}
+use Rattle.grammar.specs.Places.{Placed, _>>=_, _>>_, gives, this, numeral}
 use Rattle.grammar.specs.declared.ReadAddress.{ReadAddress}
 
 -- a comma and a number

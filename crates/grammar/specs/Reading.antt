@@ -9,6 +9,7 @@ use Rattle.paper.specs.Bytes.{Bytes, if_then_else_, ch, within, is-digit, digit
 use Rattle.paper.specs.Sizes.{is-mark}
 use Rattle.paper.specs.Grammar.{is-separator}
 use Rattle.codes.specs.declared.Relation.{Relation}
+use Rattle.codes.specs.declared.Arithmetic.{Arithmetic}
 use Rattle.codes.specs.declared.Operator.{Operator}
 use Rattle.codes.specs.declared.Credit.{Credit}
 use Rattle.codes.specs.declared.Fill.{Fill}
@@ -198,7 +199,7 @@ previous-elm = do
 -- "`*` or `*` and a digit"
 unfoldable pub multiply-elm : Placed Elm
 multiply-elm =
-    digit-ahead (λ n. gives (Elm.Binary (Operator.Multiply n))) (gives (Elm.Binary (Operator.Multiply 0)))
+    digit-ahead (λ n. gives (Elm.Binary (Operator.Arithmetic (Arithmetic.Multiply n)))) (gives (Elm.Binary (Operator.Arithmetic (Arithmetic.Multiply 0))))
 
 -- `[]`, or `[` alone
 unfoldable pub bracket-elm : Placed Elm
@@ -215,10 +216,10 @@ converting-elm = do
 unfoldable pub single-elm : Placed Elm
 single-elm =
     choose
-    ((ch "/", gives (Elm.Binary Operator.Divide))
-    ∷ (ch "R", gives (Elm.Binary Operator.Rest))
-    ∷ (ch "+", gives (Elm.Binary Operator.Add))
-    ∷ (ch "-", gives (Elm.Binary Operator.Subtract))
+    ((ch "/", gives (Elm.Binary (Operator.Arithmetic Arithmetic.Divide)))
+    ∷ (ch "R", gives (Elm.Binary (Operator.Arithmetic Arithmetic.Rest)))
+    ∷ (ch "+", gives (Elm.Binary (Operator.Arithmetic Arithmetic.Add)))
+    ∷ (ch "-", gives (Elm.Binary (Operator.Arithmetic Arithmetic.Subtract)))
     ∷ (ch ":", gives (Elm.Binary Operator.Concatenate))
     ∷ (ch "_", gives Elm.Exchange)
     ∷ (ch "P", gives Elm.Duplicate)

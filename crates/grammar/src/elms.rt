@@ -7,6 +7,7 @@ use crate::conversions::conversion;
 use crate::places::digit;
 use crate::places::numeral;
 use crate::places::peek;
+use codes::Arithmetic;
 use codes::Elm;
 use codes::Operand;
 use codes::Operator;
@@ -108,12 +109,12 @@ fn multiply_elm(code: &[u8], at: usize) -> ReadElm
 {
     let ReadNum::Num { value, next } = digit(code, at) else {
         return ReadElm::Elm {
-            elm: Elm::Binary(Operator::Multiply(0)),
+            elm: Elm::Binary(Operator::Arithmetic(Arithmetic::Multiply(0))),
             next: at,
         };
     };
     ReadElm::Elm {
-        elm: Elm::Binary(Operator::Multiply(value)),
+        elm: Elm::Binary(Operator::Arithmetic(Arithmetic::Multiply(value))),
         next,
     }
 }
@@ -173,10 +174,10 @@ fn single_elm(code: &[u8], at: usize) -> ReadElm
     let byte = ahead.byte;
     let next = ahead.next;
     match byte {
-        b'/' => two_entries(Operator::Divide, next),
-        b'R' => two_entries(Operator::Rest, next),
-        b'+' => two_entries(Operator::Add, next),
-        b'-' => two_entries(Operator::Subtract, next),
+        b'/' => two_entries(Operator::Arithmetic(Arithmetic::Divide), next),
+        b'R' => two_entries(Operator::Arithmetic(Arithmetic::Rest), next),
+        b'+' => two_entries(Operator::Arithmetic(Arithmetic::Add), next),
+        b'-' => two_entries(Operator::Arithmetic(Arithmetic::Subtract), next),
         b':' => two_entries(Operator::Concatenate, next),
         b'_' => ReadElm::Elm {
             elm: Elm::Exchange,

@@ -1,9 +1,9 @@
 -- The laws of one code's run: a code other than F on the element, and what the judgement of a code says of its head. Assumes nothing.
-use mathlib.Core.Path.{_≡_, refl, sym, ap, _∙_}
+use mathlib.Core.Path.{_≡_, refl, ap, _∙_}
 use mathlib.Core.Bool.{Bool, true, false}
 use mathlib.Core.List.{List, [], _∷_}
 use mathlib.Core.Option.{Option, none, some}
-use Prim.Native.Nat.{ℕ, zero, suc, _+_, _-_, _≤_, _<_}
+use Prim.Native.Nat.{ℕ, _+_, _-_, _≤_, _<_}
 use native.Mathlib.Nat.{add-zero}
 use native.Mathlib.Omega.{arith}
 use lib.ListN.{length}
@@ -17,8 +17,8 @@ use Rattle.paper.specs.Answers.{refusal-in}
 use Rattle.paper.specs.Codes.{Conversion, Elm, Code}
 use Rattle.paper.specs.Grammar.{read}
 use Rattle.paper.specs.Checking.{all-stacked, lawful, in-grammar, judged}
-use Rattle.paper.specs.Steps.{Setting, Run, done, stop, step, stepped, conversion-gives, bytes-in, price, limited, conversion-step, elms-run, code-run}
-use Rattle.paper.specs.Converting.{Outcome, within-budget}
+use Rattle.paper.specs.Steps.{Setting, done, step, stepped, conversion-gives, bytes-in, price, limited, conversion-step, code-run}
+use Rattle.paper.specs.Converting.{within-budget}
 use Rattle.codes.specs.declared.Conversion.{Conversion as Converted}
 use Rattle.codes.specs.Meaning.{conversion-of}
 use Rattle.grammar.specs.declared.Head.{Head}
@@ -28,7 +28,7 @@ use Rattle.grammar.specs.Checking.{whole, head, elms-from}
 use Rattle.grammar.proofs.Judging.{functioned, read-by, head-reads, marks-read}
 use Rattle.machine.specs.Slots.{element-slot, entry-at}
 use Rattle.machine.specs.Bounds.{Conversion-within}
-use Rattle.machine.specs.Stepping.{handed, setting-of, taken-one, converted-on}
+use Rattle.machine.specs.Stepping.{handed, taken-one, converted-on}
 use Rattle.machine.specs.Runs.{answered, read-run, Stacks, stacks, converting, judged-run, Judged-well, judged-well}
 use Rattle.machine.proofs.Effects.{Gave, gave-handed}
 use Rattle.machine.proofs.Turns.{stopped}

@@ -1,18 +1,17 @@
 -- The laws of a step's end: its own refusal, its cost over what is left, and its effect on the slots. Assumes nothing.
-use mathlib.Core.Path.{_≡_, refl, sym, ap, _∙_}
-use mathlib.Core.Bool.{Bool, true, false}
-use mathlib.Core.List.{List, [], _∷_, _++_}
+use mathlib.Core.Path.{_≡_, refl, ap}
+use mathlib.Core.Bool.{true, false}
+use mathlib.Core.List.{List, [], _∷_}
 use Prim.Native.Nat.{ℕ, zero, suc, _+_, _-_, _≤_, _<_}
-use native.Mathlib.Nat.{add-zero, zero-add, add-comm, add-assoc}
 use native.Mathlib.Numerals.{add-one}
 use native.Mathlib.Omega.{arith}
 use lib.ListN.{length, take, drop}
 use lib.Seq.{take-at}
 use lib.Dec.{leb}
 use borrow.Author.Tests.{le-leb, lt-leb}
-use Rattle.paper.specs.Bytes.{Bytes, if_then_else_}
-use Rattle.paper.specs.Sizes.{entry-most, scratch-least, stack-most}
-use Rattle.paper.specs.Refusals.{Res, given, refused, _>>=_, _>>_, refuse_unless_, over-budget, over-long-entry}
+use Rattle.paper.specs.Bytes.{Bytes}
+use Rattle.paper.specs.Sizes.{entry-most, stack-most}
+use Rattle.paper.specs.Refusals.{Res, given, refused, over-budget, over-long-entry}
 use Rattle.paper.specs.declared.Given.{Given}
 use Rattle.paper.specs.Answers.{given-of, written, refusal-in, length-in}
 use Rattle.paper.specs.Numbers.{Binary, binary-gives, substring-gives}
@@ -21,9 +20,9 @@ use Rattle.paper.specs.Steps.{limited, conversion-gives}
 use Rattle.paper.proofs.Predicates.{Holds, holds, refuses}
 use Rattle.paper.proofs.Entries.{Fit, limited-fits}
 use Rattle.machine.specs.declared.Step.{Step}
-use Rattle.machine.specs.Slots.{slots, element-slot, spare-slot, entry-at, stack-of, exchanged, exchanged-lengths, Slotted}
+use Rattle.machine.specs.Slots.{slots, element-slot, entry-at, stack-of, exchanged, exchanged-lengths, Slotted}
 use Rattle.machine.specs.Stepping.{step-of, stack-after, held-after, putting, taken-one, taken-two, taken-three, binary-on, substring-on, converted-on, exchanging, handed, Settles, Puts}
-use Rattle.machine.proofs.Laws.{Put, entry-fits, after-slotted, after-same, after-other, after-on-top, exchanged-slotted, exchanged-element, exchanged-stack}
+use Rattle.machine.proofs.Laws.{Put, after-slotted, after-other, after-on-top, exchanged-slotted, exchanged-element, exchanged-stack}
 
 -- as many entries as are held
 pub stack-length : (scratch : Bytes) (lens : List ℕ) (n : ℕ) → length (stack-of scratch lens n) ≡ n
@@ -156,11 +155,11 @@ module _ {scratch : Bytes} {lens : List ℕ} (slotted : Slotted scratch lens) (l
 
 -- what an operator or `[]` gave on the entries in the slots from k on, put in their place
 module _ (scratch : Bytes) (lens : List ℕ) (k : ℕ) where
-  pub binary-gave : {answer : Given} {work′ second top : Bytes} {o o′ : Binary} (work : Bytes) (stack : List Bytes)
-      → second ≡ entry-at scratch lens k → top ≡ entry-at scratch lens (k + 1) → o′ ≡ o
-      → Gave (limited entry-most (binary-gives o′ second top)) answer work work′
+  pub binary-gave : {answer : Given} {work′ second top : Bytes} (o : Binary) (work : Bytes) (stack : List Bytes)
+      → second ≡ entry-at scratch lens k → top ≡ entry-at scratch lens (k + 1)
+      → Gave (limited entry-most (binary-gives o second top)) answer work work′
       → putting (taken-two scratch lens k) (binary-on o scratch lens k) stack ≡ putting (length second + length top) (handed answer work′) stack
-  binary-gave work stack e e′ q g = rw (gave-handed _ work g, q, e, e′)
+  binary-gave o work stack e e′ g = rw (gave-handed _ work g, e, e′)
 
   pub substring-gave : {answer : Given} {work′ third second top : Bytes} (work : Bytes) (stack : List Bytes)
       → third ≡ entry-at scratch lens k → second ≡ entry-at scratch lens (k + 1) → top ≡ entry-at scratch lens (k + 2)

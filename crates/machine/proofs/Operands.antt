@@ -1,29 +1,25 @@
 -- The laws of what an elm pushes: the place that an attribute is loaded from, and a literal's place in its code. Assumes nothing.
-use mathlib.Core.Path.{_≡_, refl, sym, ap, _∙_}
-use mathlib.Core.List.{List, []}
+use mathlib.Core.Path.{_≡_, refl}
 use Prim.Native.Nat.{ℕ, zero, suc, _+_, _-_, _≤_}
 use native.Mathlib.Omega.{arith}
 use lib.ListN.{length, take, drop}
 use Rattle.paper.specs.Bytes.{Bytes}
 use Rattle.paper.specs.Records.{path, reads}
 use Rattle.paper.specs.Sizes.{number-digits}
-use Rattle.paper.specs.Numbers as numbers
 use Rattle.paper.specs.Codes as paper
 use Rattle.paper.specs.Steps.{Setting, load-path, operand}
 use Rattle.codes.specs.declared.Repeat.{Repeat}
 use Rattle.codes.specs.declared.Operand.{Operand}
+use Rattle.codes.specs.declared.Arithmetic.{Arithmetic}
 use Rattle.codes.specs.declared.Operator.{Operator}
-use Rattle.codes.specs.declared.Relation.{Relation}
 use Rattle.codes.specs.declared.Mask.{Mask}
 use Rattle.codes.specs.declared.Separator.{Separator}
 use Rattle.codes.specs.declared.Conversion.{Conversion}
 use Rattle.codes.specs.declared.Elm.{Elm}
 use Rattle.masks.specs.Bounds.{Bounded}
-use Rattle.codes.specs.Meaning.{relation-of, operator-of, mask-of, repeat-of, operand-of}
-use Rattle.numbers.specs.Orders as orders
-use Rattle.numbers.specs.Operators.{arithmetic-of, binary-of, scale-of}
-use Rattle.machine.specs.Operators.{relation-in, operator-in}
-use Rattle.machine.specs.Bounds.{Operand-within, literal-within, Operator-within, multiply-within, divide-within, rest-within, add-within, subtract-within, concatenate-within, relate-within, Conversion-within, mask-within, date-within, Elm-within, push-within, binary-within, convert-within}
+use Rattle.codes.specs.Meaning.{mask-of, repeat-of, operand-of}
+use Rattle.numbers.specs.Operators.{scales, scale-of}
+use Rattle.machine.specs.Bounds.{Operand-within, literal-within, Arithmetic-within, multiply-within, divide-within, rest-within, add-within, subtract-within, Operator-within, arithmetic-within, concatenate-within, relate-within, Conversion-within, mask-within, date-within, Elm-within, push-within, binary-within, convert-within}
 use Rattle.machine.proofs.Laws.{from-to}
 
 -- the value and the subvalue that are loaded
@@ -64,34 +60,16 @@ pub previous-operand : {o : Operand} (code : Bytes) (c : Setting) → o ≡ Oper
 unfolding operand operand-of
 previous-operand code c e = rw e
 
--- the operator of `numbers` has the same meaning
-relation-meant : (r : Relation) → orders.relation-of (relation-in r) ≡ relation-of r
-unfolding orders.relation-of relation-in relation-of
-relation-meant Relation.Equal = refl
-relation-meant Relation.Unequal = refl
-relation-meant Relation.Greater = refl
-relation-meant Relation.Lesser = refl
-relation-meant Relation.AtLeast = refl
-relation-meant Relation.AtMost = refl
-
-pub operator-meant : (o : Operator) → binary-of (operator-in o) ≡ operator-of o
-unfolding binary-of arithmetic-of operator-in operator-of
-operator-meant (Operator.Multiply n) = refl
-operator-meant Operator.Divide = refl
-operator-meant Operator.Rest = refl
-operator-meant Operator.Add = refl
-operator-meant Operator.Subtract = refl
-operator-meant Operator.Concatenate = refl
-operator-meant (Operator.Relate r) = ap numbers.relate (relation-meant r)
-
 -- `*n`: n is a digit
-pub operator-scale : {o : Operator} → Operator-within o → scale-of (operator-in o) ≤ number-digits
-unfolding operator-in
-operator-scale (multiply-within h) = omega arith
-operator-scale divide-within = omega arith
-operator-scale rest-within = omega arith
-operator-scale add-within = omega arith
-operator-scale subtract-within = omega arith
+arithmetic-scale : {a : Arithmetic} → Arithmetic-within a → scales a ≤ number-digits
+arithmetic-scale (multiply-within h) = omega arith
+arithmetic-scale divide-within = omega arith
+arithmetic-scale rest-within = omega arith
+arithmetic-scale add-within = omega arith
+arithmetic-scale subtract-within = omega arith
+
+pub operator-scale : {o : Operator} → Operator-within o → scale-of o ≤ number-digits
+operator-scale (arithmetic-within h) = arithmetic-scale h
 operator-scale concatenate-within = omega arith
 operator-scale relate-within = omega arith
 

@@ -2,7 +2,7 @@
 use mathlib.Core.Path.{_≡_, refl, sym, ap, _∙_}
 use mathlib.Core.Bool.{Bool, true, false}
 use mathlib.Core.List.{List, [], _∷_}
-use Prim.Native.Nat.{ℕ, zero, suc, _+_, _-_, _≤_, _<_}
+use Prim.Native.Nat.{ℕ, suc, _+_, _-_, _≤_}
 use native.Mathlib.Omega.{arith}
 use lib.ListN.{length, take, drop}
 use lib.Dec.{leb, eqb}
@@ -13,9 +13,9 @@ use Rattle.paper.specs.Refusals.{Res, given, refused, over-budget}
 use Rattle.paper.specs.Records.{split}
 use Rattle.paper.specs.Codes.{Code}
 use Rattle.paper.specs.Checking.{judged, judged-all, Checked, accepted, faulty, in-front, in-turn, code-texts, check}
-use Rattle.paper.specs.Steps.{Setting, Run, done, stop, step, onward, code-run, codes-run}
+use Rattle.paper.specs.Steps.{Run, done, stop, step, onward, code-run, codes-run}
 use Rattle.paper.specs.Converting.{Outcome, within-budget}
-use Rattle.paper.proofs.Runs.{resumed, resumed-from, budget-onward}
+use Rattle.paper.proofs.Runs.{resumed, budget-onward}
 use Rattle.grammar.specs.Checking.{code-end}
 use Rattle.grammar.proofs.Strings.{end-within, split-last, split-more}
 use Rattle.machine.specs.declared.Ran.{Ran}

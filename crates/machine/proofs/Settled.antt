@@ -1,7 +1,7 @@
 -- Any two outcomes that a contract of this crate allows are equal. Of a call that puts or copies: every byte of the slots afterwards.
 -- Of a step: its answer, the stack then held and the element; of a run: its answer, and the element where it was not refused.
 -- Left open, for the callers clear them: what the slots above the stack and the work buffer hold after a step or a run.
-use mathlib.Core.Path.{_≡_, sym, ap, _∙_}
+use mathlib.Core.Path.{_≡_, sym, _∙_}
 use contract.Lifetimes.{Lfts}
 use Prim.Native.Nat.{ℕ}
 use mathlib.Core.List.{List}
@@ -11,13 +11,12 @@ use Rattle.paper.specs.Converting.{Outcome}
 use Rattle.machine.specs.declared.Step.{Step}
 use Rattle.machine.specs.declared.Ran.{Ran}
 use Rattle.machine.specs.Slots.{element-slot, entry-at, stack-of}
-use Rattle.machine.specs.Stepping.{held-after, Settles}
+use Rattle.machine.specs.Stepping.{held-after}
 use Rattle.machine.specs.Runs.{Answers, Runs, ran-of}
 use Rattle.machine.proofs.slots.entry.Reads as entry
 use Rattle.machine.proofs.slots.put.Reads as put
 use Rattle.machine.proofs.slots.copy.Reads as copy
 use Rattle.machine.proofs.slots.exchange.Reads as exchange
-use Rattle.machine.proofs.giving.as_operator.Reads as as-operator
 use Rattle.machine.proofs.giving.give.Reads as give
 use Rattle.machine.proofs.loading.operand.Reads as operand
 use Rattle.machine.proofs.stepping.step.Reads as step
@@ -42,9 +41,6 @@ copy-settled κs a r r′ e e′ p q = same p q
 exchange-settled : (κs : Lfts 2) → (a : _) (r r′ : _) (e e′ : _) → exchange.Post κs a r e → exchange.Post κs a r′ e′
     → (e .0 .now ≡ e′ .0 .now) × (e .1 .0 .now ≡ e′ .1 .0 .now)
 exchange-settled κs a r r′ e e′ p q = same p q
-
-as-operator-settled : (κs : Lfts 0) → (a : _) (r r′ : _) (e e′ : _) → as-operator.Post κs a r e → as-operator.Post κs a r′ e′ → r ≡ r′
-as-operator-settled κs a r r′ e e′ p q = p ∙ sym q
 
 give-settled : (κs : Lfts 2) → (a : _) (r r′ : _) (e e′ : _) → give.Post κs a r e → give.Post κs a r′ e′
     → (r ≡ r′) × (e .1 .1 .0 .now ≡ e′ .1 .1 .0 .now)

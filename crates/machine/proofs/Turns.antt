@@ -1,7 +1,7 @@
 -- The laws of an F code's run, elm by elm: what the rest gives from the start is what it gives from here. Assumes nothing.
 use mathlib.Core.Path.{_≡_, refl, sym, ap, _∙_}
 use mathlib.Core.Bool.{Bool, true, false}
-use mathlib.Core.List.{List, [], _∷_}
+use mathlib.Core.List.{List, []}
 use mathlib.Core.Option.{Option, none, some}
 use Prim.Native.Nat.{ℕ, zero, suc, _+_, _-_, _≤_, _<_}
 use native.Mathlib.Omega.{arith}
@@ -13,10 +13,10 @@ use Rattle.paper.specs.Sizes.{entry-most, stack-most}
 use Rattle.paper.specs.Refusals.{Res, given, refused, _>>=_, _>>_, refuse_unless_, over-budget}
 use Rattle.paper.specs.Codes.{Operand, Elm}
 use Rattle.paper.specs.Checking.{shape, stacked, all-stacked}
-use Rattle.paper.specs.Steps.{Setting, Run, done, stop, step, stepped, elm-step, elms-run, top-entry}
+use Rattle.paper.specs.Steps.{Setting, Run, step, stepped, elm-step, elms-run, top-entry}
 use Rattle.paper.specs.Converting.{Outcome, within-budget}
-use Rattle.paper.proofs.Predicates.{Holds, held, All, none-of, and-all}
-use Rattle.paper.proofs.Entries.{Fit, Stepped, steps-within}
+use Rattle.paper.proofs.Predicates.{held, All, none-of, and-all}
+use Rattle.paper.proofs.Entries.{Fit, steps-within}
 use Rattle.paper.proofs.Stack.{Room}
 use Rattle.codes.specs.declared.Elm.{Elm as Coded}
 use Rattle.codes.specs.Meaning.{elm-of}
@@ -30,7 +30,7 @@ use Rattle.machine.specs.declared.Ran.{Ran}
 use Rattle.machine.specs.Slots.{slots, element-slot, entry-at, stack-of, Slotted, Lent}
 use Rattle.machine.specs.Bounds.{Elm-within}
 use Rattle.machine.specs.Stepping.{step-of, stack-after, held-after, refusal-in, setting-of, Settles, Elm-settles}
-use Rattle.machine.specs.Runs.{ran-of, Answers, Runs, answered, read-run, Stacks, stacks}
+use Rattle.machine.specs.Runs.{ran-of, Runs, answered, read-run, Stacks, stacks}
 use Rattle.machine.proofs.Laws.{Put, entry-fits, after-same, after-slotted}
 use Rattle.machine.proofs.Effects.{stack-length}
 use Rattle.machine.proofs.Within.{elm-reads, read-has}

@@ -1,9 +1,9 @@
 -- What the readers of the grammar keep an elm's numbers within: digits, a mask's width, a literal's place in its code. Assumes nothing.
-use mathlib.Core.Path.{_≡_, refl, sym, ap, _∙_}
+use mathlib.Core.Path.{_≡_, refl}
 use mathlib.Core.Bool.{Bool, true, false, _&&_}
 use mathlib.Core.List.{List, [], _∷_}
 use mathlib.Core.Option.{Option, none, some}
-use Prim.Native.Nat.{ℕ, zero, suc, _+_, _-_, _≤_, _<_}
+use Prim.Native.Nat.{ℕ, suc, _+_, _-_, _≤_, _<_}
 use native.Mathlib.Omega.{arith}
 use lib.ListN.{length, drop, length-drop}
 use lib.Dec.{leb, eqb, lit≤}
@@ -13,39 +13,12 @@ use Rattle.paper.specs.Grammar.{is-separator}
 use Rattle.paper.proofs.Predicates.{All, none-of, and-all}
 use Rattle.codes.specs.declared.Plain.{Plain}
 use Rattle.codes.specs.declared.Fill.{Fill}
-use Rattle.codes.specs.declared.Conversion.{Conversion}
-use Rattle.codes.specs.declared.Repeat.{Repeat}
-use Rattle.codes.specs.declared.Elm.{Elm}
 use Rattle.codes.specs.Meaning.{fill-of, mask-of}
-use Rattle.masks.specs.Bounds.{field-width, Bounded}
-use Rattle.grammar.specs.Places.{Placed, byte-at, after, follow, follow-or, gives, fails, only-if, ahead, choose-or, this, flag, digit, num, numeral}
+use Rattle.masks.specs.Bounds.{field-width}
+use Rattle.grammar.specs.Places.{Placed, byte-at, after, follow, follow-or, only-if, choose-or, this, flag, digit, num, numeral}
 use Rattle.grammar.specs.Reading as place
 use Rattle.grammar.proofs.Taken.{digit-small}
-use Rattle.machine.specs.Bounds.{
-  Operand-within,
-  attribute-within,
-  literal-within,
-  previous-within,
-  Operator-within,
-  multiply-within,
-  divide-within,
-  rest-within,
-  add-within,
-  subtract-within,
-  concatenate-within,
-  relate-within,
-  Conversion-within,
-  plain-within,
-  mask-within,
-  date-within,
-  Elm-within,
-  push-within,
-  binary-within,
-  substring-within,
-  exchange-within,
-  duplicate-within,
-  convert-within,
-}
+use Rattle.machine.specs.Bounds.{attribute-within, literal-within, previous-within, multiply-within, divide-within, rest-within, add-within, subtract-within, arithmetic-within, concatenate-within, relate-within, Conversion-within, plain-within, mask-within, date-within, Elm-within, push-within, binary-within, substring-within, exchange-within, duplicate-within, convert-within}
 
 -- nothing read, or something with P
 pub data Reads {A : Type 0} (P : A → Type 0) : Option (A × ℕ) → Type 0 where
@@ -214,10 +187,10 @@ module _ (s : Bytes) where
   unfolding place.single-elm
   single-reads =
       choose-reads _
-      (and-all (λ n. reads (binary-within divide-within))
-      (and-all (λ n. reads (binary-within rest-within))
-      (and-all (λ n. reads (binary-within add-within))
-      (and-all (λ n. reads (binary-within subtract-within))
+      (and-all (λ n. reads (binary-within (arithmetic-within divide-within)))
+      (and-all (λ n. reads (binary-within (arithmetic-within rest-within)))
+      (and-all (λ n. reads (binary-within (arithmetic-within add-within)))
+      (and-all (λ n. reads (binary-within (arithmetic-within subtract-within)))
       (and-all (λ n. reads (binary-within concatenate-within))
       (and-all (λ n. reads exchange-within)
       (and-all (λ n. reads duplicate-within)
@@ -235,7 +208,7 @@ module _ (s : Bytes) where
       (and-all (literal-reads 39)
       (and-all (literal-reads 34)
       (and-all (λ n. follow-any (this 80 s n) _ (λ _ j. follow-any (this 86 s j) _ (λ _ k. reads (push-within previous-within))))
-      (and-all (λ n. or-then _ _ (digit-reads s n) (λ d p k. reads (binary-within (multiply-within p))) (reads (binary-within (multiply-within (lit≤ tt)))))
+      (and-all (λ n. or-then _ _ (digit-reads s n) (λ d p k. reads (binary-within (arithmetic-within (multiply-within p)))) (reads (binary-within (arithmetic-within (multiply-within (lit≤ tt))))))
       (and-all (choose-reads _ (and-all (λ n. reads substring-within) none-of) (λ n. reads (binary-within relate-within)))
       (and-all (λ n. follow-then _ (conversion-reads n) (λ c p j. follow-any (this 41 s j) _ (λ _ k. reads (convert-within p)))) none-of))))))
       single-reads

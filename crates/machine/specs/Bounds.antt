@@ -3,6 +3,7 @@ use Prim.Native.Nat.{ℕ, _+_, _≤_}
 use lib.ListN.{length}
 use Rattle.paper.specs.Bytes.{Bytes}
 use Rattle.codes.specs.declared.Relation.{Relation}
+use Rattle.codes.specs.declared.Arithmetic.{Arithmetic}
 use Rattle.codes.specs.declared.Operator.{Operator}
 use Rattle.codes.specs.declared.Mask.{Mask}
 use Rattle.codes.specs.declared.Plain.{Plain}
@@ -21,12 +22,15 @@ pub data Operand-within (code : Bytes) : Operand → Type 0 where
   previous-within : Operand-within code Operand.Previous
 
 -- `*n`: n is a digit
+pub data Arithmetic-within : Arithmetic → Type 0 where
+  multiply-within : {n : ℕ} → n ≤ 9 → Arithmetic-within (Arithmetic.Multiply n)
+  divide-within : Arithmetic-within Arithmetic.Divide
+  rest-within : Arithmetic-within Arithmetic.Rest
+  add-within : Arithmetic-within Arithmetic.Add
+  subtract-within : Arithmetic-within Arithmetic.Subtract
+
 pub data Operator-within : Operator → Type 0 where
-  multiply-within : {n : ℕ} → n ≤ 9 → Operator-within (Operator.Multiply n)
-  divide-within : Operator-within Operator.Divide
-  rest-within : Operator-within Operator.Rest
-  add-within : Operator-within Operator.Add
-  subtract-within : Operator-within Operator.Subtract
+  arithmetic-within : {a : Arithmetic} → Arithmetic-within a → Operator-within (Operator.Arithmetic a)
   concatenate-within : Operator-within Operator.Concatenate
   relate-within : {r : Relation} → Operator-within (Operator.Relate r)
 

@@ -1,5 +1,4 @@
 pub mod Slots
-pub mod Operators
 pub mod Bounds
 pub mod Stepping
 pub mod Runs

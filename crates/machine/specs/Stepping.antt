@@ -1,5 +1,5 @@
 -- One step, as the code answers it: the paper's numbers for each case, and what the slots hold then.
-use Prim.Native.Nat.{ℕ, _+_, _≤_}
+use Prim.Native.Nat.{ℕ, _+_}
 use mathlib.Core.Path.{_≡_}
 use mathlib.Core.List.{List, [], _∷_}
 use lib.ListN.{length, take}

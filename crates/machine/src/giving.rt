@@ -1,10 +1,7 @@
-// What an operator gives on two entries, and a code other than F on one: each is passed to the crate that it belongs to.
+// What a code other than F gives on an element: each is passed to the crate that it belongs to.
 // Every answer is written in front of the lent output, or refused with the output as it was.
 use codes::Conversion;
-use codes::Operator;
 use codes::Plain;
-use codes::Relation;
-use numbers::Arithmetic;
 use paper::Given;
 use texts::Casing;
 use texts::Class;
@@ -17,35 +14,6 @@ ghost use Rattle.paper.specs.Texts.{plain-gives};
 ghost use Rattle.paper.specs.Steps.{limited, conversion-gives};
 ghost use Rattle.codes.specs.Meaning.{plain-of, conversion-of};
 ghost use Rattle.machine.specs.Bounds.{Conversion-within};
-ghost use Rattle.machine.specs.Operators.{relation-in, operator-in};
-
-fn as_relation(r: Relation) -> numbers::Relation
-    ensures { λ q. ⌜ q ≡ relation-in r ⌝ }
-{
-    match r {
-        Relation::Equal => numbers::Relation::Equal,
-        Relation::Unequal => numbers::Relation::Unequal,
-        Relation::Greater => numbers::Relation::Greater,
-        Relation::Lesser => numbers::Relation::Lesser,
-        Relation::AtLeast => numbers::Relation::AtLeast,
-        Relation::AtMost => numbers::Relation::AtMost,
-    }
-}
-
-// The elm's operator as that of `numbers`.
-pub fn as_operator(o: Operator) -> numbers::Operator
-    ensures { λ q. ⌜ q ≡ operator-in o ⌝ }
-{
-    match o {
-        Operator::Multiply(n) => numbers::Operator::Arithmetic(Arithmetic::Multiply(n as usize)),
-        Operator::Divide => numbers::Operator::Arithmetic(Arithmetic::Divide),
-        Operator::Rest => numbers::Operator::Arithmetic(Arithmetic::Rest),
-        Operator::Add => numbers::Operator::Arithmetic(Arithmetic::Add),
-        Operator::Subtract => numbers::Operator::Arithmetic(Arithmetic::Subtract),
-        Operator::Concatenate => numbers::Operator::Concatenate,
-        Operator::Relate(r) => numbers::Operator::Relate(as_relation(r)),
-    }
-}
 
 // G, T, L, MC, MX and MY.
 fn give_plain(plain: Plain, e: &[u8], out: &mut [u8]) -> Given

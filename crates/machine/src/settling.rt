@@ -5,7 +5,6 @@ use paper::Given;
 use paper::Limit;
 use paper::refusal;
 ghost use mathlib.Core.Path.{_≡_};
-ghost use mathlib.Core.List.{_∷_};
 ghost use Prim.Native.Nat.{_+_, _≤_, _<_};
 ghost use lib.ListN.{length};
 ghost use Rattle.paper.specs.Sizes.{entry-most, record-most, stack-most};

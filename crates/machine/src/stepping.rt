@@ -64,7 +64,7 @@ fn binary(
     let second = slots::entry(&*scratch, &*lens, k);
     let top = slots::entry(&*scratch, &*lens, k + 1);
     let taken = second.len() as u64 + top.len() as u64;
-    let answer = numbers::entries::binary(giving::as_operator(o), second, top, work);
+    let answer = numbers::entries::binary(o, second, top, work);
     settling::settle_given(answer, taken, left, &*work, scratch, lens, k)
 }
 

@@ -1,4 +1,3 @@
-pub mod FormLaws
 pub mod GroupLaws
 pub mod LaidLaws
 pub mod LayoutLaws

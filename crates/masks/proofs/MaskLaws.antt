@@ -19,8 +19,11 @@ use Rattle.paper.proofs.Predicates.{Holds, holds, refuses, holds-after}
 use Rattle.masks.specs.declared.scaling.Scaling.{Scaling}
 use Rattle.masks.specs.Bounds.{Bounded, field-width}
 use Rattle.masks.specs.Scaling.{scaling-of}
-use Rattle.masks.proofs.FormLaws.{never}
 use Rattle.masks.proofs.PieceLaws.{length-masked}
+
+-- two constructors are never one
+never : {G : Type 0} → _≡_ {A = ℕ} 0 1 → G
+never e = absurd (omega arith)
 
 -- the paper's scaled size
 abbrev scaled-size : Mask → Whole → ℕ

@@ -16,13 +16,14 @@ use Rattle.paper.specs.Bytes.{Bytes}
 use Rattle.paper.specs.Sizes.{number-most}
 use Rattle.paper.specs.Refusals.{given, refused, out-of-range}
 use Rattle.paper.specs.Numbers.{Number as Whole, numeric, ranged, below, bytes-below, compared, holds}
+use Rattle.codes.specs.declared.Relation.{Relation}
+use Rattle.codes.specs.Meaning.{relation-of}
 use Rattle.numbers.specs.declared.Number.{Number}
 use Rattle.numbers.specs.declared.Form.{Form}
 use Rattle.numbers.specs.declared.Order.{Order}
 use Rattle.numbers.specs.declared.Compared.{Compared}
-use Rattle.numbers.specs.declared.Relation.{Relation}
 use Rattle.numbers.specs.Forms.{whole, form-of}
-use Rattle.numbers.specs.Orders.{order-of, relation-of, compared-gives}
+use Rattle.numbers.specs.Orders.{order-of, compared-gives}
 use Rattle.numbers.specs.Scans.{by-test, rank-of, bytes-order, rank-test}
 use Rattle.numbers.proofs.ReadingLaws.{number-form, large-form, no-form}
 

@@ -3,7 +3,7 @@ use mathlib.Core.Path.{_≡_, refl, sym, ap, _∙_}
 use mathlib.Core.Bool.{Bool, true, false}
 use mathlib.Core.List.{[], _∷_, _++_}
 use Prim.Native.Nat.{ℕ, _+_, _-_, _≤_, _<_, min}
-use native.Mathlib.Nat.{zero-add, not-suc-le-zero}
+use native.Mathlib.Nat.{not-suc-le-zero}
 use native.Mathlib.Omega.{arith}
 use lib.Dec.{leb}
 use lib.ListN.{length, take, drop, set, length-append, length-take, length-drop, drop-of-length-le}
@@ -17,16 +17,18 @@ use Rattle.paper.specs.Steps.{limited}
 use Rattle.paper.specs.Numbers.{number, number-text, compared, holds, concatenate, relate, binary-gives, substring-gives}
 use Rattle.paper.specs.declared.Given.{Given}
 use Rattle.paper.proofs.Numerals.{length-text}
+use Rattle.lent.specs.Over.{over}
+use Rattle.lent.proofs.Laws.{over-is, over-front}
+use Rattle.codes.specs.declared.Relation.{Relation}
+use Rattle.codes.specs.declared.Arithmetic.{Arithmetic}
+use Rattle.codes.specs.declared.Operator.{Operator}
+use Rattle.codes.specs.Meaning.{relation-of, arithmetic-of, operator-of}
 use Rattle.numbers.specs.declared.Number.{Number}
 use Rattle.numbers.specs.declared.Order.{Order}
 use Rattle.numbers.specs.declared.Compared.{Compared}
-use Rattle.numbers.specs.declared.Relation.{Relation}
 use Rattle.numbers.specs.declared.Reckoned.{Reckoned}
-use Rattle.numbers.specs.declared.Arithmetic.{Arithmetic}
-use Rattle.numbers.specs.declared.Operator.{Operator}
 use Rattle.numbers.specs.Forms.{whole}
-use Rattle.numbers.specs.Orders.{order-of, relation-of, compared-gives}
-use Rattle.numbers.specs.Operators.{arithmetic-of, binary-of}
+use Rattle.numbers.specs.Orders.{order-of, compared-gives}
 use Rattle.numbers.specs.Reckonings.{reckoned-gives, calculation}
 use Rattle.numbers.specs.Scans.{truth-byte, skips, takes}
 use Rattle.numbers.proofs.ComparingLaws.{compared-refusal}
@@ -92,18 +94,17 @@ module _ (r : Relation) (s t d : Bytes) where
 
 -- "`:` puts top after second."
 module _ (s t d : Bytes) where
-  pub joined : (e f : Bytes) → e ≡ take 0 d ++ s ++ drop (0 + length s) d → f ≡ take (length s) e ++ t ++ drop (length s + length t) e
-      → f ≡ (s ++ t) ++ drop (length (s ++ t)) d
+  joined : (e f : Bytes) → e ≡ over d 0 s → f ≡ over e (length s) t → f ≡ (s ++ t) ++ drop (length (s ++ t)) d
   joined e f h k =
-      let put : e ≡ s ++ drop (length s) d = h ∙ rw zero-add in
-      k ∙ rw (put, take-append-seam, drop-append-add, drop-drop, length-append)
+      let put : e ≡ s ++ drop (length s) d = h ∙ over-front d s in
+      k ∙ over-is e (length s) t ∙ rw (put, take-append-seam, drop-append-add, drop-drop, length-append)
 
   pub too-long : entry-most < length s + length t → Answered (binary-gives concatenate s t) d d (Given.Refused 9)
   unfolding binary-gives
   too-long l = long-entry (given (s ++ t)) d (s ++ t) refl (rw length-append l)
 
   pub put-after : (n : ℕ) (e f : Bytes) → length s + length t ≤ entry-most → n ≡ length s + length t
-      → e ≡ take 0 d ++ s ++ drop (0 + length s) d → f ≡ take (length s) e ++ t ++ drop (length s + length t) e
+      → e ≡ over d 0 s → f ≡ over e (length s) t
       → Answered (binary-gives concatenate s t) d f (Given.Length n)
   unfolding binary-gives
   put-after n e f l m h k = given-entry (given (s ++ t)) d (s ++ t) f n refl (rw length-append l) (m ∙ sym (length-append s t)) (joined e f h k)
@@ -145,11 +146,11 @@ module _ (m n from size : ℕ) (s d : Bytes) (f : from ≡ min m (length s)) (l 
   cut-long h = long-entry (given (take n (drop m s))) d (take n (drop m s)) refl (omega (arith, clipped-length))
 
   pub cut-short : (e : Bytes) → size ≤ entry-most
-      → e ≡ take 0 d ++ take (from + size - from) (drop from s) ++ drop (0 + length (take (from + size - from) (drop from s))) d
+      → e ≡ over d 0 (take (from + size - from) (drop from s))
       → Answered (given (take n (drop m s))) d e (Given.Length size)
   cut-short e h k =
       given-entry (given (take n (drop m s))) d (take n (drop m s)) e size refl (omega (arith, clipped-length)) clipped-length
-      (k ∙ rw (clipped, zero-add))
+      (k ∙ over-front d (take (from + size - from) (drop from s)) ∙ rw clipped)
 
 -- "start in second (below 1 counts as 1), length in top (below 0 counts as 0)"
 module _ (u s t d : Bytes) where
@@ -170,6 +171,6 @@ module _ (u s t d : Bytes) where
 
 -- the operator as an arm knows it
 pub as-told : (op told : Operator) (s t d e : Bytes) (r : Given) → op ≡ told
-    → Answered (binary-gives (binary-of told) s t) d e r
-    → Answered (binary-gives (binary-of op) s t) d e r
+    → Answered (binary-gives (operator-of told) s t) d e r
+    → Answered (binary-gives (operator-of op) s t) d e r
 as-told op told s t d e r h k = rw h k

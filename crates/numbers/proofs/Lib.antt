@@ -1,5 +1,6 @@
 pub mod Table
 pub mod ReadingLaws
+pub mod FormLaws
 pub mod WritingLaws
 pub mod ComparingLaws
 pub mod ReckoningLaws

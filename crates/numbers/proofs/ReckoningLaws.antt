@@ -24,12 +24,12 @@ use Rattle.paper.specs.Numbers.{
   remainder,
   binary-gives,
 }
+use Rattle.codes.specs.declared.Arithmetic.{Arithmetic}
+use Rattle.codes.specs.Meaning.{arithmetic-of}
 use Rattle.numbers.specs.declared.Number.{Number}
 use Rattle.numbers.specs.declared.Form.{Form}
 use Rattle.numbers.specs.declared.Reckoned.{Reckoned}
-use Rattle.numbers.specs.declared.Arithmetic.{Arithmetic}
 use Rattle.numbers.specs.Forms.{whole, form-of}
-use Rattle.numbers.specs.Operators.{arithmetic-of}
 use Rattle.numbers.specs.Reckonings.{reckoned-gives, over, reckoning, calculation}
 use Rattle.numbers.specs.Scans.{differ}
 use Rattle.numbers.proofs.ReadingLaws.{number-form, large-form, no-form}

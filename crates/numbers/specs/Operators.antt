@@ -1,21 +1,7 @@
--- The paper's operator for each case of the code's.
+-- The digits that an operator drops of its product.
 use Prim.Native.Nat.{ℕ}
-use Rattle.paper.specs.Numbers.{Binary, multiply, divide, rest, add, subtract, concatenate, relate}
-use Rattle.numbers.specs.declared.Arithmetic.{Arithmetic}
-use Rattle.numbers.specs.declared.Operator.{Operator}
-use Rattle.numbers.specs.Orders.{relation-of}
-
-unfoldable pub arithmetic-of : Arithmetic → Binary
-arithmetic-of (Arithmetic.Multiply n) = multiply n
-arithmetic-of Arithmetic.Divide = divide
-arithmetic-of Arithmetic.Rest = rest
-arithmetic-of Arithmetic.Add = add
-arithmetic-of Arithmetic.Subtract = subtract
-
-unfoldable pub binary-of : Operator → Binary
-binary-of (Operator.Arithmetic a) = arithmetic-of a
-binary-of Operator.Concatenate = concatenate
-binary-of (Operator.Relate r) = relate (relation-of r)
+use Rattle.codes.specs.declared.Arithmetic.{Arithmetic}
+use Rattle.codes.specs.declared.Operator.{Operator}
 
 -- the digits that `*n` drops
 abbrev pub scales : Arithmetic → ℕ

@@ -4,8 +4,8 @@ use lib.Dec.{eqb}
 use Rattle.paper.specs.Bytes.{Bytes}
 use Rattle.paper.specs.Refusals.{Res, given, refused, _>>=_, _>>_, refuse_when_, zero-divisor}
 use Rattle.paper.specs.Numbers.{Number as Whole, natural, ranged, number, plus, negated, times, quotient, remainder}
+use Rattle.codes.specs.declared.Arithmetic.{Arithmetic}
 use Rattle.numbers.specs.declared.Reckoned.{Reckoned}
-use Rattle.numbers.specs.declared.Arithmetic.{Arithmetic}
 use Rattle.numbers.specs.Forms.{whole}
 
 unfoldable pub reckoned-gives : Reckoned → Res Whole

@@ -6,9 +6,9 @@ use Prim.Native.Nat.{ℕ, pred}
 use lib.Dec.{leb, ltb, eqb}
 use Rattle.paper.specs.Bytes.{Bytes, if_then_else_}
 use Rattle.paper.specs.Numbers.{Number as Whole, signed, value, bytes-below}
+use Rattle.codes.specs.declared.Relation.{Relation}
 use Rattle.numbers.specs.declared.Form.{Form}
 use Rattle.numbers.specs.declared.Order.{Order}
-use Rattle.numbers.specs.declared.Relation.{Relation}
 use Rattle.numbers.specs.Forms.{form-of}
 
 -- the form of a sign and the value of what follows it

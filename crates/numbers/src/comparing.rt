@@ -3,13 +3,14 @@ use crate::Compared;
 use crate::Form;
 use crate::Number;
 use crate::Order;
-use crate::Relation;
 use crate::reading;
+use codes::Relation;
 ghost use mathlib.Core.Path.{_≡_};
 ghost use lib.Dec.{ltb};
 ghost use Rattle.paper.specs.Numbers.{below, compared, holds};
+ghost use Rattle.codes.specs.Meaning.{relation-of};
 ghost use Rattle.numbers.specs.Forms.{whole};
-ghost use Rattle.numbers.specs.Orders.{order-of, relation-of, compared-gives};
+ghost use Rattle.numbers.specs.Orders.{order-of, compared-gives};
 ghost use Rattle.numbers.specs.Scans.{by-test, bytes-order, rank-of};
 
 // "Relations (001, 4.5) read second against top: as numbers when both have numeric form, else by bytes"

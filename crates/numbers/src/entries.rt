@@ -1,34 +1,33 @@
 // What F's elms give that take entries and reckon: the operators on two of them, and `[]` on three.
-use crate::Arithmetic;
 use crate::Compared;
 use crate::Number;
-use crate::Operator;
 use crate::Reckoned;
-use crate::Relation;
 use crate::comparing;
 use crate::reckoning;
 use crate::writing;
+use codes::Arithmetic;
+use codes::Operator;
+use codes::Relation;
 use paper::Given;
 use paper::Limit;
-ghost use mathlib.Core.List.{_++_};
 ghost use mathlib.Core.Path.{_≡_};
-ghost use Prim.Native.Nat.{_+_, _≤_, min};
+ghost use Prim.Native.Nat.{_≤_, min};
 ghost use lib.ListN.{length, take, drop};
 ghost use Rattle.paper.specs.Sizes.{number-digits, entry-most};
 ghost use Rattle.paper.specs.Refusals.{given};
 ghost use Rattle.paper.specs.Answers.{given-of, written};
 ghost use Rattle.paper.specs.Numbers.{concatenate, relate, binary-gives, substring-gives};
 ghost use Rattle.paper.specs.Steps.{limited};
+ghost use Rattle.codes.specs.Meaning.{relation-of, arithmetic-of, operator-of};
 ghost use Rattle.numbers.specs.Forms.{whole};
-ghost use Rattle.numbers.specs.Orders.{relation-of};
-ghost use Rattle.numbers.specs.Operators.{arithmetic-of, binary-of, scales, scale-of};
+ghost use Rattle.numbers.specs.Operators.{scales, scale-of};
 ghost use Rattle.numbers.specs.Scans.{truth-byte, skips, takes};
 
 // What the second entry and the top give, at the front of `out`.
 pub fn binary(op: Operator, second: &[u8], top: &[u8], out: &mut [u8]) -> Given
     requires { ⌜ (scale-of op ≤ number-digits) × (entry-most ≤ length (now out)) ⌝ }
-    ensures { λ r. ⌜ r ≡ given-of (limited entry-most (binary-gives (binary-of op) (now (second .entry)) (now (top .entry)))) ⌝ }
-    ensures { λ _. ⌜ now (out .exit) ≡ written (now (out .entry)) (limited entry-most (binary-gives (binary-of op) (now (second .entry)) (now (top .entry)))) ⌝ }
+    ensures { λ r. ⌜ r ≡ given-of (limited entry-most (binary-gives (operator-of op) (now (second .entry)) (now (top .entry)))) ⌝ }
+    ensures { λ _. ⌜ now (out .exit) ≡ written (now (out .entry)) (limited entry-most (binary-gives (operator-of op) (now (second .entry)) (now (top .entry)))) ⌝ }
 {
     match op {
         Operator::Arithmetic(a) => compute(a, second, top, out),
@@ -60,8 +59,8 @@ fn concatenate(second: &[u8], top: &[u8], out: &mut [u8]) -> Given
     if Limit::ENTRY < size {
         return Given::Refused(paper::refusal::OVER_LONG_ENTRY);
     }
-    copy(second, out, 0);
-    copy(top, out, n);
+    lent::copy_in(second, out, 0);
+    lent::copy_in(top, out, n);
     Given::Length(size)
 }
 
@@ -111,7 +110,7 @@ fn cut(third: &[u8], start: Number, count: Number, out: &mut [u8]) -> Given
         return Given::Refused(paper::refusal::OVER_LONG_ENTRY);
     }
     let end = from + size;
-    copy(&third[from..end], out, 0);
+    lent::copy_in(&third[from..end], out, 0);
     Given::Length(size)
 }
 
@@ -139,16 +138,4 @@ fn least(n: u64, most: usize) -> usize
     ensures { λ r. ⌜ r ≡ min n most ⌝ }
 {
     if n < most as u64 { n as usize } else { most }
-}
-
-// All of `from`, at a place.
-fn copy(from: &[u8], out: &mut [u8], at: usize)
-    requires { ⌜ at + length (now from) ≤ length (now out) ⌝ }
-    ensures { λ _. ⌜ now (out .exit) ≡ take at (now (out .entry)) ++ now (from .entry) ++ drop (at + length (now (from .entry))) (now (out .entry)) ⌝ }
-{
-    let mut i = 0;
-    while i < from.len() {
-        out[at + i] = from[i];
-        i += 1;
-    }
 }

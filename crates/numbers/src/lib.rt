@@ -53,31 +53,3 @@ enum Reckoned {
     Number(Number),
     Refused(u64),
 }
-
-// `*` and `*n` (`*` is `*0`), `/` `R` `+` `-`.
-pub enum Arithmetic {
-    Multiply(usize),
-    Divide,
-    Rest,
-    Add,
-    Subtract,
-}
-
-// `=` `#` `>` `<` `]` `[` (001, 4.5).
-pub enum Relation {
-    Equal,
-    Unequal,
-    Greater,
-    Lesser,
-    AtLeast,
-    AtMost,
-}
-
-// The elms that take two entries and put one.
-pub enum Operator {
-    Arithmetic(Arithmetic),
-    Concatenate,
-    Relate(Relation),
-}
-
-// "Numbers that refusals carry": 10 and 11, and 9 for a result over the limit.

@@ -1,17 +1,17 @@
 // Arithmetic of F: both entries as numbers, and what two numbers give. Sizes in range never wrap.
-use crate::Arithmetic;
 use crate::Form;
 use crate::Number;
 use crate::Reckoned;
 use crate::reading;
 use crate::writing;
+use codes::Arithmetic;
 use paper::Limit;
 ghost use mathlib.Core.Path.{_≡_};
 ghost use Prim.Native.Nat.{_*_, _≤_, _<_};
 ghost use lib.Dec.{ltb};
 ghost use Rattle.paper.specs.Sizes.{number-digits, number-most};
 ghost use Rattle.paper.specs.Numbers.{number, ranged, plus, negated, quotient, remainder};
-ghost use Rattle.numbers.specs.declared.Arithmetic.the-variants.{Multiply, Divide, Rest, Add, Subtract};
+ghost use Rattle.codes.specs.declared.Arithmetic.the-variants.{Multiply, Divide, Rest, Add, Subtract};
 ghost use Rattle.numbers.specs.Forms.{whole};
 ghost use Rattle.numbers.specs.Operators.{scales};
 ghost use Rattle.numbers.specs.Reckonings.{reckoned-gives, reckoning, calculation};
@@ -108,7 +108,7 @@ fn subtract(x: Number, y: Number) -> Reckoned
 }
 
 // "`*n` divides the product by ten to the n, truncated toward zero; the undivided product must be in range"
-fn multiply(n: usize, x: Number, y: Number) -> Reckoned
+fn multiply(n: u64, x: Number, y: Number) -> Reckoned
     requires { ⌜ (n ≤ number-digits) × (x .size ≤ number-most) × (y .size ≤ number-most) ⌝ }
     ensures { λ r. ⌜ reckoned-gives r ≡ reckoning (Multiply n) (whole x) (whole y) ⌝ }
 {
@@ -118,7 +118,7 @@ fn multiply(n: usize, x: Number, y: Number) -> Reckoned
     let product = Number::signed(differ(x.negative, y.negative), x.size * y.size);
     let scale = Number {
         negative: false,
-        size: writing::power(n),
+        size: writing::power(n as usize),
     };
     ranged(quotient(product, scale))
 }

@@ -1,7 +1,7 @@
 -- Demand 3, the budget: at or above the defined count it changes nothing; below it the refusal is 15, and the count reported is that of the
 -- steps completed, the most that the budget holds. First of any run, then of converting. Assumes nothing.
-use Prim.Native.Nat.{ℕ, zero, suc, _+_, _≤_, _<_}
-use mathlib.Core.Path.{_≡_, refl, sym, ap, _∙_, subst}
+use Prim.Native.Nat.{ℕ, suc, _+_, _≤_, _<_}
+use mathlib.Core.Path.{_≡_, refl, sym, ap, _∙_}
 use mathlib.Core.Bool.{Bool, true, false}
 use mathlib.Core.List.{List, [], _∷_}
 use native.Mathlib.Nat.{add-zero, zero-add, add-assoc, le-of-eq}
@@ -9,7 +9,7 @@ use native.Mathlib.Decide.{decLe}
 use native.Mathlib.Omega.{arith}
 use lib.ListN.{take}
 use lib.Dec.{leb}
-use borrow.Author.Tests.{le-leb, leb-true, lt-leb, leb-false}
+use borrow.Author.Tests.{le-leb, leb-true, leb-false}
 use Rattle.paper.specs.Bytes.{Bytes, if_then_else_}
 use Rattle.paper.specs.Refusals.{Res, given, refused, over-budget}
 use Rattle.paper.specs.Codes.{Code}

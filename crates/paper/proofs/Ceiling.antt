@@ -1,10 +1,10 @@
 -- Demand 3, the ceiling: the defined count is at most m x (A x (1 + most + R) + B x (1 + 4 x most)), for any limit `most` on an entry, and so
 -- for converting at its own. The cap of a code is the sum of its steps' caps; a run is bounded by data, a case for each of its forms.
 -- Assumes nothing.
-use Prim.Native.Nat.{ℕ, zero, suc, _+_, _-_, _*_, _≤_, _<_}
-use mathlib.Core.Path.{_≡_, refl, sym, _∙_}
+use Prim.Native.Nat.{ℕ, _+_, _*_, _≤_}
+use mathlib.Core.Path.{_≡_, refl, _∙_}
 use mathlib.Core.Bool.{Bool, true, false}
-use mathlib.Core.List.{List, [], _∷_, _++_}
+use mathlib.Core.List.{List, [], _∷_}
 use native.Mathlib.Omega.{arith}
 use native.Mathlib.Nat.{le-trans, le-of-eq, suc-mul, zero-mul, one-mul, add-mul, add-zero}
 use lib.ListN.{length}
@@ -12,7 +12,7 @@ use lib.Dec.{leb, lit≤}
 use borrow.Author.Tests.{leb-true}
 use Rattle.paper.specs.Bytes.{Bytes, if_then_else_}
 use Rattle.paper.specs.Sizes.{entry-most, scratch-least}
-use Rattle.paper.specs.Refusals.{Res, given, refused, _>>_, refuse_unless_, over-long-entry, short-scratch}
+use Rattle.paper.specs.Refusals.{Res, given, refuse_unless_, over-long-entry, short-scratch}
 use Rattle.paper.specs.Codes.{Conversion, Elm, Code}
 use Rattle.paper.specs.Checking.{
   shape,
@@ -29,46 +29,10 @@ use Rattle.paper.specs.Checking.{
   report,
   checked-codes,
 }
-use Rattle.paper.specs.Steps.{
-  Run,
-  done,
-  stop,
-  step,
-  onward,
-  stepped,
-  Setting,
-  top-entry,
-  limited,
-  price,
-  conversion-gives,
-  elm-step,
-  conversion-step,
-  elms-run,
-  code-run,
-  codes-run,
-  element-run,
-}
-use Rattle.paper.specs.Converting.{
-  Element,
-  elements,
-  elements-run,
-  count,
-  Outcome,
-  unbudgeted,
-  within-budget,
-  lawful-place,
-  lawful-code,
-  ready,
-  run,
-  finished,
-  carried-out,
-  convert,
-  convert-freely,
-  ceiling-over,
-  ceiling,
-}
+use Rattle.paper.specs.Steps.{Run, done, stop, step, onward, stepped, Setting, top-entry, conversion-step, elms-run, code-run, codes-run, element-run}
+use Rattle.paper.specs.Converting.{Element, elements, elements-run, count, unbudgeted, lawful-place, lawful-code, ready, run, finished, carried-out, convert, convert-freely, ceiling-over, ceiling}
 use Rattle.paper.proofs.Predicates.{Holds, holds, refuses, holds-then, holds-after, holds-next, All, none-of, and-all}
-use Rattle.paper.proofs.Entries.{Fit, limited-fits, cap, Stepped, steps-within, price-capped}
+use Rattle.paper.proofs.Entries.{Fit, limited-fits, cap, steps-within, price-capped}
 use Rattle.paper.proofs.Budget.{budgeted-at-most}
 
 -- A run that costs at most n and, where it is done, answers with P.

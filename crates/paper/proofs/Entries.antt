@@ -1,7 +1,7 @@
 -- Of one F elm, for any limit on an entry: it puts as many entries as its shape says, none over the limit, and so its cost has a cap.
 -- The check of the stack, the ceiling and the machine go by these. Assumes nothing.
-use Prim.Native.Nat.{ℕ, zero, suc, _+_, _-_, _*_, _≤_, min}
-use mathlib.Core.Path.{_≡_, refl, sym, ap, _∙_}
+use Prim.Native.Nat.{ℕ, zero, suc, _+_, _-_, _*_, _≤_}
+use mathlib.Core.Path.{_≡_, refl, sym}
 use mathlib.Core.Bool.{Bool, true, false}
 use mathlib.Core.List.{List, [], _∷_, _++_}
 use native.Mathlib.Omega.{arith}
@@ -10,25 +10,11 @@ use lib.ListN.{length, take, drop, length-append, length-drop, length-take}
 use lib.Dec.{leb, lit≤}
 use borrow.Author.Tests.{leb-true}
 use Rattle.paper.specs.Bytes.{Bytes, if_then_else_}
-use Rattle.paper.specs.Refusals.{Res, given, refused, _>>=_, _>>_, refuse_unless_, over-long-entry, stack-fault}
-use Rattle.paper.specs.Codes.{Elm, Operand, Conversion}
+use Rattle.paper.specs.Refusals.{Res, given, refused, _>>_, refuse_unless_, over-long-entry}
+use Rattle.paper.specs.Codes.{Elm, Operand}
 use Rattle.paper.specs.Checking.{shape, stacked}
-use Rattle.paper.specs.Steps.{
-  Setting,
-  operand,
-  conversion-gives,
-  on-one,
-  on-two,
-  on-three,
-  bytes-in,
-  price,
-  limited,
-  one-entry,
-  elm-puts,
-  elm-step,
-  conversion-step,
-}
-use Rattle.paper.proofs.Predicates.{Holds, holds, refuses, holds-then, holds-after, holds-next, All, none-of, and-all, all-append}
+use Rattle.paper.specs.Steps.{Setting, on-one, on-two, on-three, bytes-in, price, limited, one-entry, elm-puts, elm-step}
+use Rattle.paper.proofs.Predicates.{Holds, holds, refuses, holds-then, holds-next, All, none-of, and-all, all-append}
 
 module _ (most : ℕ) where
   -- an entry within the limit

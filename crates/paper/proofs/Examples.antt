@@ -12,7 +12,7 @@ use Rattle.paper.specs.Sizes.{attribute-mark, value-mark, subvalue-mark,
 use Rattle.paper.specs.Records.{split, join, placed, pieces, nth, path, part-at, whole, id-of, place, lawful-id, lawful-record, lawful-address, reads}
 use Rattle.paper.specs.Numbers.{signed, natural, value, numeric, ranged, number, digits, trimmed, decimal, number-text, negated, plus, times, quotient, remainder, below, bytes-below, compared, holds, binary-gives, substring-gives}
 use Rattle.paper.specs.Grammar.{this, flag, choose, more-digits, numeral, num, quoted, separator, group-after, group-code, extract-from, extract-code, admit-from, length-after, length-code, except-code, character-code, scales, credit-letter, fill-byte, fill-width, fill-part, mask-code, is-separator, date-after, date-code, masking-code, conversion, repeats, attribute-elm, literal-elm, previous-elm, multiply-elm, bracket-elm, converting-elm, operator-elm, elm, parted, elms, function-code, code, read}
-use Rattle.paper.specs.Checking.{Report, shape, stacked, all-stacked, lawful, judged, judged-all, code-texts, check, elms-count, code-count, codes-count, attribute-loads, other-steps, report, checked-codes}
+use Rattle.paper.specs.Checking.{shape, stacked, all-stacked, lawful, judged, judged-all, code-texts, check, elms-count, code-count, codes-count, attribute-loads, other-steps, report, checked-codes}
 use Rattle.paper.specs.Texts.{raised, lowered, titled, hex-digit, hexed, hex-value, unhexed, plain-gives}
 use Rattle.paper.specs.Masks.{number-gives, rounded, scaled, grouped, integer-text, point-text, digits-text, before-digits, after-digits, masked-text, laid-out, blank-text, number-masked, mask-gives}
 use Rattle.paper.specs.Dates.{leap, month-lengths, month-names, days-before-year, year-of, month-day, date-of, ranged-day, year-text, date-text, date-gives}

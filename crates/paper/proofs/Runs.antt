@@ -1,6 +1,6 @@
 -- Runs that go on from one another: the order of going on does not matter, and a budget is read part by part. Assumes nothing.
 use Prim.Native.Nat.{ℕ, _+_}
-use mathlib.Core.Path.{_≡_, refl, sym, ap, _∙_}
+use mathlib.Core.Path.{_≡_, refl, ap}
 use mathlib.Core.Bool.{Bool, true, false}
 use lib.Dec.{leb}
 use Rattle.paper.specs.Bytes.{Bytes, if_then_else_}

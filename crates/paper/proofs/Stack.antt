@@ -1,7 +1,7 @@
 -- Demand 3, the stack: in a string that the check accepts, on every record and at every position, each elm finds at least the entries that
 -- it takes and leaves at most 16, and each F code ends with an entry to answer with. For any limit on an entry. Assumes nothing.
-use Prim.Native.Nat.{ℕ, zero, suc, _+_, _-_, _≤_, _<_}
-use mathlib.Core.Path.{_≡_, refl, sym, ap, _∙_, subst}
+use Prim.Native.Nat.{ℕ, zero, suc, _+_, _-_, _≤_}
+use mathlib.Core.Path.{_≡_, refl, sym, _∙_}
 use mathlib.Core.Bool.{Bool, true, false}
 use mathlib.Core.List.{List, [], _∷_}
 use mathlib.Core.Option.{Option, none, some}
@@ -13,56 +13,10 @@ use Rattle.paper.specs.Bytes.{Bytes, if_then_else_, ch, any}
 use Rattle.paper.specs.Sizes.{stack-most, is-mark, code-most}
 use Rattle.paper.specs.Refusals.{Res, given, refused, _>>=_, _>>_, refuse_unless_, stack-fault, over-long-code}
 use Rattle.paper.specs.Codes.{Operand, Elm, Code, Conversion}
-use Rattle.paper.specs.Grammar.{
-  Reader,
-  follow,
-  gives,
-  ahead,
-  this,
-  parted,
-  elm,
-  elms,
-  conversion,
-  function-code,
-  code,
-  all-read,
-  read,
-}
-use Rattle.paper.specs.Checking.{
-  shape,
-  stacked,
-  all-stacked,
-  lawful,
-  in-grammar,
-  judged,
-  Checked,
-  accepted,
-  faulty,
-  in-front,
-  in-turn,
-  judged-all,
-  code-texts,
-  check,
-}
+use Rattle.paper.specs.Grammar.{Reader, this, parted, elm, elms, conversion, function-code, code, all-read, read}
+use Rattle.paper.specs.Checking.{shape, stacked, all-stacked, lawful, in-grammar, judged, Checked, accepted, faulty, in-turn, judged-all, code-texts, check}
 use Rattle.paper.specs.Steps.{Setting, elm-step}
-use Rattle.paper.proofs.Predicates.{
-  Holds,
-  holds,
-  refuses,
-  held,
-  holds-then,
-  holds-next,
-  Reads,
-  reads,
-  reads-not,
-  reads-then,
-  reads-after,
-  reads-either,
-  reads-ahead,
-  All,
-  none-of,
-  and-all,
-}
+use Rattle.paper.proofs.Predicates.{Holds, holds, refuses, holds-then, holds-next, Reads, reads, reads-not, reads-then, reads-after, reads-ahead, All, none-of, and-all}
 use Rattle.paper.proofs.Entries.{Fit, Stepped, steps-within}
 
 -- an elm of this shape can be applied to so many entries

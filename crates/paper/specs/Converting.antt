@@ -1,6 +1,5 @@
 -- Document 01, "What each code gives" (the elements of an address) and "Steps" (budget, count, ceiling): converting.
 use Prim.Native.Nat.{ℕ, zero, suc, _+_, _*_}
-use mathlib.Core.Bool.{Bool, true, false}
 use mathlib.Core.List.{List, [], _∷_, _++_}
 use mathlib.Core.Option.{Option, none, some}
 use lib.ListN.{length, replicate}
@@ -11,19 +10,7 @@ use Rattle.paper.specs.Records.{Part, split, place, lawful-record, lawfu
 use Rattle.paper.specs.Codes.{Code}
 use Rattle.paper.specs.Checking.{check, checked-codes}
 use Rattle.paper.specs.Steps.{Run, done, stop, step, onward, element-run}
-use Rattle.paper.specs.Refusals.{
-  Res,
-  given,
-  refused,
-  _>>=_,
-  _>>_,
-  refuse_unless_,
-  refusal-of,
-  answer-of,
-  short-scratch,
-  over-budget,
-  short-output,
-}
+use Rattle.paper.specs.Refusals.{Res, given, refused, _>>=_, _>>_, refuse_unless_, answer-of, short-scratch, over-budget, short-output}
 
 -- An element of an address: the mark kept before it (none before the first), its own (v, s), its bytes.
 pub record Element : Type 0 where

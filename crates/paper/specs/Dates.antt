@@ -1,22 +1,14 @@
 -- Document 01, "What each code gives": D and the calendar.
 use Prim.Native.Nat.{ℕ, zero, suc, pred, _+_, _-_, _*_, _/_, _%_}
-use mathlib.Core.Bool.{Bool, true, false, not, _&&_, _||_}
-use mathlib.Core.List.{List, [], _∷_, _++_, map}
+use mathlib.Core.Bool.{Bool, not, _&&_, _||_}
+use mathlib.Core.List.{List, [], _∷_, _++_}
 use mathlib.Core.Option.{Option, none, some}
-use lib.ListN.{length, getD}
+use lib.ListN.{getD}
 use lib.Dec.{leb, ltb, eqb}
 use Rattle.paper.specs.Bytes.{Bytes, if_then_else_, ch, bytes}
 use Rattle.paper.specs.Numbers.{Number, digits}
 use Rattle.paper.specs.Masks.{number-gives}
-use Rattle.paper.specs.Refusals.{
-  Res,
-  given,
-  refused,
-  _>>=_,
-  _>>_,
-  refuse_unless_,
-  out-of-range,
-}
+use Rattle.paper.specs.Refusals.{Res, given, _>>=_, _>>_, refuse_unless_, out-of-range}
 
 -- "Gregorian rules both ways"
 unfoldable pub leap : ℕ → Bool

@@ -1,14 +1,14 @@
 -- Document 01, "The code grammar": readers that look one byte ahead and commit, a line for each line of the grammar.
 use Prim.Native.Nat.{ℕ, zero, suc, _+_, _*_}
 use mathlib.Core.Bool.{Bool, true, false, not, _&&_, _||_}
-use mathlib.Core.List.{List, [], _∷_, _++_}
+use mathlib.Core.List.{List, [], _∷_}
 use mathlib.Core.Option.{Option, none, some}
 use lib.ListN.{length}
-use lib.Dec.{leb, ltb, eqb}
+use lib.Dec.{ltb, eqb}
 use Rattle.paper.specs.Bytes.{Bytes, if_then_else_, ch, within, is-digit, is-letter, digit-value, any}
 use Rattle.paper.specs.Sizes.{is-mark}
 use Rattle.paper.specs.Numbers.{Binary, Relation}
-use Rattle.paper.specs.Codes.{Plain, Credit, Mask, Conversion, Repeat, Operand, Elm, Code}
+use Rattle.paper.specs.Codes.{Plain, Credit, Conversion, Repeat, Operand, Elm, Code}
 
 infixl 5 _>>=_ _>>_
 -- What stands at the front of the bytes and the bytes after it, or none.

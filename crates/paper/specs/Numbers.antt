@@ -1,23 +1,13 @@
 -- Document 01, "What each code gives": numeric form, range, decimal text, and the arithmetic and relations of F.
 use Prim.Native.Nat.{ℕ, zero, suc, pred, _+_, _-_, _*_, _/_, _%_, _^_}
-use mathlib.Core.Bool.{Bool, true, false, not, _&&_, _||_}
-use mathlib.Core.List.{List, [], _∷_, _++_}
+use mathlib.Core.Bool.{Bool, true, false, not, _&&_}
+use mathlib.Core.List.{[], _∷_, _++_}
 use mathlib.Core.Option.{Option, none, some}
 use lib.ListN.{length, take, drop}
 use lib.Dec.{leb, ltb, eqb}
 use Rattle.paper.specs.Bytes.{Bytes, if_then_else_, ch, is-digit, digit-value}
 use Rattle.paper.specs.Sizes.{number-digits, number-most}
-use Rattle.paper.specs.Refusals.{
-  Res,
-  given,
-  refused,
-  _>>=_,
-  _>>_,
-  refuse_unless_,
-  refuse_when_,
-  out-of-range,
-  zero-divisor,
-}
+use Rattle.paper.specs.Refusals.{Res, given, _>>=_, _>>_, refuse_unless_, refuse_when_, out-of-range, zero-divisor}
 
 -- A whole number: its sign and its size. Zero has no sign.
 pub record Number : Type 0 where

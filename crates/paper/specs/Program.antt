@@ -1,7 +1,6 @@
 -- Document 01, "Examples on both sides": the program, from the bytes it reads to the bytes it writes.
-use Prim.Native.Nat.{ℕ, zero, suc}
-use mathlib.Core.Bool.{Bool, true, false}
-use mathlib.Core.List.{List, [], _∷_, _++_, map}
+use Prim.Native.Nat.{ℕ}
+use mathlib.Core.List.{[], _∷_, _++_, map}
 use mathlib.Core.Option.{Option, none, some}
 use lib.ListN.{take}
 use lib.Dec.{eqb}
@@ -9,7 +8,7 @@ use Rattle.paper.specs.Bytes.{Bytes, if_then_else_, ch, bytes}
 use Rattle.paper.specs.Sizes.{attribute-mark, value-mark, subvalue-mark, record-most, scratch-least}
 use Rattle.paper.specs.Records.{split, nth}
 use Rattle.paper.specs.Numbers.{decimal}
-use Rattle.paper.specs.Grammar.{Reader, follow, _>>=_, _>>_, gives, this, numeral, all-read}
+use Rattle.paper.specs.Grammar.{Reader, _>>=_, _>>_, gives, this, numeral, all-read}
 use Rattle.paper.specs.Converting.{Outcome, convert}
 use Rattle.paper.specs.Refusals.{refusal-of, answer-of}
 

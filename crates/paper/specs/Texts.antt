@@ -1,10 +1,10 @@
 -- Document 01, "What each code gives": G, T, L, MC, MX and MY on one element.
-use Prim.Native.Nat.{ℕ, zero, suc, pred, _+_, _-_, _*_, _/_, _%_}
-use mathlib.Core.Bool.{Bool, true, false, not, _&&_, _||_}
-use mathlib.Core.List.{List, [], _∷_, _++_, map}
+use Prim.Native.Nat.{ℕ, pred, _+_, _-_, _*_, _/_, _%_}
+use mathlib.Core.Bool.{Bool, false, not}
+use mathlib.Core.List.{[], _∷_, map}
 use mathlib.Core.Option.{Option, none, some}
 use lib.ListN.{length, take, drop}
-use lib.Dec.{leb, ltb}
+use lib.Dec.{ltb}
 use Rattle.paper.specs.Bytes.{Bytes, if_then_else_, ch, within, is-digit, is-upper, is-lower, is-letter, any, only}
 use Rattle.paper.specs.Sizes.{is-mark}
 use Rattle.paper.specs.Records.{split, join}

@@ -1,17 +1,17 @@
 -- Document 01, "What each code gives" (typed dates) and their refusals: 5, then 6, then 12.
 use Prim.Native.Nat.{ℕ, zero, suc, pred, _+_, _*_}
-use mathlib.Core.Bool.{Bool, true, false, _&&_}
+use mathlib.Core.Bool.{Bool, true, _&&_}
 use mathlib.Core.List.{List, [], _∷_}
 use mathlib.Core.Option.{Option, none, some}
 use lib.ListN.{length, getD}
-use lib.Dec.{leb, ltb, eqb}
+use lib.Dec.{leb, ltb}
 use Rattle.paper.specs.Bytes.{Bytes, if_then_else_, ch, is-digit, is-letter, digit-value, within, same-bytes}
 use Rattle.paper.specs.Sizes.{code-most}
 use Rattle.paper.specs.Numbers.{Number, signed, plus, natural}
 use Rattle.paper.specs.Codes.{Conversion, Code}
 use Rattle.paper.specs.Texts.{raised}
 use Rattle.paper.specs.Dates.{Date, month-names, month-lengths, days-to, day-zero}
-use Rattle.paper.specs.Grammar.{Reader, follow, _>>=_, _>>_, gives, fails, only-if, ahead, this, numeral, all-read, read}
+use Rattle.paper.specs.Grammar.{Reader, _>>=_, _>>_, gives, fails, ahead, this, numeral, all-read, read}
 use Rattle.paper.specs.Refusals.{Res, given, refused, over-long-code, not-in-grammar, not-convertible}
 
 -- "one or two digits for day or month"

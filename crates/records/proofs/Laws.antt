@@ -7,10 +7,10 @@ use Prim.Native.Nat.{ℕ, zero, suc, _+_, _-_, _≤_}
 use native.Mathlib.Numerals.{lt-of-le-of-ne}
 use native.Mathlib.Nat.{le-refl}
 use native.Mathlib.Omega.{arith}
-use lib.ListN.{length, take, drop, length-append, length-drop, length-take, length-replicate}
-use lib.Seq.{drop-drop, take-all, length-take-le}
-use lib.Dec.{leb, eqb, eqb·suc-zero, lit≤}
-use borrow.Author.Tests.{le-leb, leb-true, eqb-true, eqb-false}
+use lib.ListN.{length, take, drop, length-append, length-drop, length-replicate}
+use lib.Seq.{drop-drop, length-take-le}
+use lib.Dec.{eqb, eqb·suc-zero, lit≤}
+use borrow.Author.Tests.{eqb-true, eqb-false}
 use Rattle.paper.specs.Bytes.{Bytes, within, if_then_else_}
 use Rattle.paper.specs.Sizes.{attribute-mark, value-mark, subvalue-mark}
 use Rattle.paper.specs.Records.{opened, split, first-of, Part, placed, pieces, nth, path, part-at, and-then, whole, place}

@@ -4,7 +4,6 @@ use mathlib.Core.Bool.{Bool, true, false, true≢false, _&&_, _||_, not}
 use Prim.Native.Nat.{ℕ, suc, _+_, _-_, _≤_, _<_}
 use native.Mathlib.Omega.{arith}
 use lib.ListN.{length, take, drop}
-use lib.Seq.{take-length}
 use lib.Dec.{leb, ltb, eqb}
 use borrow.Author.Tests.{le-leb, lt-leb, not-true, not-false}
 use Rattle.paper.specs.Bytes.{Bytes, any}

@@ -1,15 +1,14 @@
 -- What one turn of each loop does, over plain lists: what the rest gives from the next place is what it gives from this one.
-use mathlib.Core.Path.{_≡_, refl, sym, ap, _∙_}
+use mathlib.Core.Path.{_≡_, refl, ap, _∙_}
 use mathlib.Core.Bool.{Bool, true, false, true≢false, _||_}
 use mathlib.Core.List.{[], _∷_}
 use Prim.Native.Nat.{ℕ, suc, _+_, _-_, _≤_, _<_}
 use native.Mathlib.Numerals.{add-one}
 use native.Mathlib.Omega.{arith}
-use lib.ListN.{length, take, drop, getD, drop-of-length-le}
-use lib.Seq.{drop-cons}
+use lib.ListN.{length, drop, getD, drop-of-length-le}
 use lib.Dec.{eqb}
 use borrow.Author.Tests.{eq-eqb, ne-eqb}
-use Rattle.paper.specs.Bytes.{Bytes, any, within, if_then_else_}
+use Rattle.paper.specs.Bytes.{Bytes, within, if_then_else_}
 use Rattle.paper.specs.Sizes.{attribute-mark}
 use Rattle.lent.proofs.Scans.{next}
 use Rattle.records.specs.Scan.{tally, skip}

@@ -1,12 +1,11 @@
 -- Each code as the scan that the code makes, a byte a turn, and that the scan is what document 01 says.
-use mathlib.Core.Path.{_≡_, refl, sym, ap, _∙_}
+use mathlib.Core.Path.{_≡_, refl, ap}
 use mathlib.Core.Bool.{Bool, true, false}
 use mathlib.Core.List.{[], _∷_, map}
-use Prim.Native.Nat.{ℕ, suc, _+_, _-_, _≤_, _<_}
+use Prim.Native.Nat.{ℕ, suc, _+_, _≤_, _<_}
 use native.Mathlib.Nat.{le-refl}
 use native.Mathlib.Omega.{arith}
 use lib.ListN.{length, take, drop, getD, length-take, length-drop, drop-of-length-le}
-use lib.Seq.{take-all}
 use Rattle.paper.specs.Bytes.{Bytes, if_then_else_, is-letter, only}
 use Rattle.paper.specs.Refusals.{given}
 use Rattle.paper.specs.Texts.{plain-gives, raised, lowered, titled}

@@ -1,5 +1,4 @@
 -- `next_line` meets its contract: behind a line end, or at the end of the text. Assumes nothing.
-use native.Mathlib.Omega.{arith}
 use borrow.Author.Needs.{needs}
 use Rattle.console.proofs.Reading.{none-behind}
 use Rattle.console.proofs.next_line.Statement.{statement}

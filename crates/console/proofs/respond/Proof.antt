@@ -2,7 +2,6 @@
 use mathlib.Core.Path.{ap, _∙_}
 use native.Mathlib.Omega.{arith}
 use borrow.Author.Needs.{needs}
-use denote.Ref.{now}
 use lib.ListN.{length}
 use Rattle.lent.specs.Over.{over}
 use Rattle.console.proofs.Answering.{lent-output, lent-scratch, refusal-short, steps-short, length-fits, answer-short, line-is, address-bad, address-good, refused-line}

@@ -1,6 +1,6 @@
 -- `convert::from_one` meets its contract. Assumes nothing.
 use Prim.Native.Nat.{ℕ, zero, suc}
-use mathlib.Core.Path.{_≡_, refl, sym, ap, _∙_}
+use mathlib.Core.Path.{_≡_, refl, sym, ap}
 use Rattle.paper.specs.Converting.{from-one}
 use Rattle.convert.proofs.from_one.Statement.{statement}
 use Rattle.convert.proofs.from_one.Tie as tie

@@ -1,5 +1,5 @@
 -- `convert::refuse` meets its contract: zeros throughout both buffers. Assumes nothing.
-use mathlib.Core.Path.{refl, sym, ap, _∙_}
+use mathlib.Core.Path.{_∙_}
 use borrow.Author.Needs.{needs}
 use Rattle.convert.proofs.Stages.{refused-output, refused-converted, zero-scratch}
 use Rattle.convert.proofs.refuse.Statement.{statement}

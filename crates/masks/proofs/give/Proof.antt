@@ -4,9 +4,11 @@ use mathlib.Core.List.{[]}
 use borrow.Author.Needs.{needs}
 use native.Mathlib.Omega.{arith}
 use Rattle.paper.specs.Sizes.{entry-most}
+use Rattle.paper.specs.Numbers.{numeric}
 use Rattle.paper.specs.Masks.{number-masked, mask-gives}
 use Rattle.codes.specs.Meaning.{mask-of}
-use Rattle.masks.proofs.FormLaws.{nothing, no-number, too-large, a-number}
+use Rattle.numbers.proofs.ReadingLaws.{number-form}
+use Rattle.numbers.proofs.FormLaws.{empty-stays, form-decides}
 use Rattle.masks.proofs.LayoutLaws.{same-answer, refuses, gives}
 use Rattle.masks.proofs.MaskLaws.{mask-limited}
 use Rattle.masks.proofs.give.Statement.{statement}
@@ -19,7 +21,7 @@ returns c =
     let a = start .args in
     let k = mask-of (a .mask) in
     same-answer (a .out .now) (sym (mask-limited k (a .e .now) (start .pre .1)))
-    (gives (mask-gives k (a .e .now)) [] (a .out .now) (a .out .now) 0 (nothing (number-masked k) (a .e .now) (c .if1 .taken)) refl refl)
+    (gives (mask-gives k (a .e .now)) [] (a .out .now) (a .out .now) 0 (empty-stays (number-masked k) (a .e .now) (c .if1 .taken)) refl refl)
 
 number-masked-requires : tie.Need-number-masked-requires
 unfolding entry-most
@@ -27,9 +29,7 @@ number-masked-requires c κs =
     let found = c .before .before .x .given in
     let reads = c .before .before .before .before in
     let start = reads .before .before .before .before in
-    let a = start .args in
-    let read = a-number (number-masked (mask-of (a .mask))) (a .e .now) (reads .before .if1 .left) (found .0 .0) (found .1) (reads .form .ensures) in
-    (read .1, omega (arith, start .pre), start .pre .1)
+    (number-form (numeric (start .args .e .now)) (found .0 .0) (sym (reads .form .ensures) ∙ found .1) .1, omega (arith, start .pre), start .pre .1)
 
 returns-2 : tie.Need-returns-2
 unfolding mask-gives
@@ -40,7 +40,7 @@ returns-2 c =
     let k = mask-of (a .mask) in
     same-answer (a .out .now) (sym (mask-limited k (a .e .now) (start .pre .1)))
     (refuses (mask-gives k (a .e .now)) 12 (a .out .now)
-    (no-number (number-masked k) (a .e .now) (reads .before .if1 .left) (c .enum-told .given .1) (reads .form .ensures)))
+    (form-decides (number-masked k) (a .e .now) (reads .before .if1 .left) (sym (c .enum-told .given .1) ∙ reads .form .ensures)))
 
 returns-3 : tie.Need-returns-3
 unfolding mask-gives
@@ -51,7 +51,7 @@ returns-3 c =
     let k = mask-of (a .mask) in
     same-answer (a .out .now) (sym (mask-limited k (a .e .now) (start .pre .1)))
     (refuses (mask-gives k (a .e .now)) 10 (a .out .now)
-    (too-large (number-masked k) (a .e .now) (reads .before .if1 .left) (c .enum-told2 .given .1) (reads .form .ensures)))
+    (form-decides (number-masked k) (a .e .now) (reads .before .if1 .left) (sym (c .enum-told2 .given .1) ∙ reads .form .ensures)))
 
 returns-4 : tie.Need-returns-4
 unfolding mask-gives
@@ -61,8 +61,8 @@ returns-4 c =
     let start = reads .before .before .before .before in
     let a = start .args in
     let k = mask-of (a .mask) in
-    let read = a-number (number-masked k) (a .e .now) (reads .before .if1 .left) (found .0 .0) (found .1) (reads .form .ensures) in
-    same-answer (a .out .now) (read .0 ∙ sym (mask-limited k (a .e .now) (start .pre .1))) (c .before .before .number-masked .ensures)
+    let decided = form-decides (number-masked k) (a .e .now) (reads .before .if1 .left) (sym (found .1) ∙ reads .form .ensures) in
+    same-answer (a .out .now) (sym decided ∙ sym (mask-limited k (a .e .now) (start .pre .1))) (c .before .before .number-masked .ensures)
 
 pub give-spec : {M : Type 1} → statement M
 give-spec =

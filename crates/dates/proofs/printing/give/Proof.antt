@@ -9,9 +9,10 @@ use Rattle.paper.specs.Steps.{limited}
 use Rattle.paper.specs.Dates.{ranged-day, date-gives}
 use Rattle.paper.specs.Answers.{given-of, written}
 use Rattle.numbers.specs.declared.Form.{Form}
+use Rattle.numbers.proofs.FormLaws.{by-form}
 use Rattle.codes.specs.Meaning.{separator-of}
 use Rattle.dates.specs.Scans.{dated-text}
-use Rattle.dates.proofs.PrintingLaws.{limited-empty, by-form, gives-by}
+use Rattle.dates.proofs.PrintingLaws.{limited-empty, gives-by}
 use Rattle.dates.proofs.printing.give.Statement.{statement}
 use Rattle.dates.proofs.printing.give.Tie as tie
 

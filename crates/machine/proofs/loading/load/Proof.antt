@@ -4,7 +4,7 @@ use mathlib.Core.List.{List}
 use borrow.Author.Needs.{needs}
 use denote.Ref.{now}
 use Rattle.paper.specs.Codes as paper
-use Rattle.paper.specs.Records.{Turn, reads, path}
+use Rattle.paper.specs.Records.{Turn, reads}
 use Rattle.codes.specs.Meaning.{repeat-of}
 use Rattle.machine.proofs.Operands.{load-id, load-other}
 use Rattle.machine.proofs.loading.load.Statement.{statement}

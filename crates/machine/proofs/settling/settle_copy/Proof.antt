@@ -1,5 +1,5 @@
 -- `machine::settling::settle_copy` meets its contract: 15 with nothing put, or what the slot holds in slot k.
-use mathlib.Core.Path.{_≡_, sym, ap}
+use mathlib.Core.Path.{sym, ap}
 use Prim.Native.Nat.{ℕ, _+_}
 use native.Mathlib.Omega.{arith}
 use Rattle.paper.specs.Sizes.{entry-most}
@@ -8,9 +8,6 @@ use Rattle.machine.proofs.Effects.{put-over, put-within}
 use borrow.Author.Needs.{needs}
 use Rattle.machine.proofs.settling.settle_copy.Statement.{statement}
 use Rattle.machine.proofs.settling.settle_copy.Tie as tie
-use Rattle.machine.proofs.settling.settle_copy.Reads as reads
-use Rattle.machine.proofs.settling.settle_copy.Lts as lts
-use Rattle.machine.proofs.slots.copy.Reads as copy-reads
 
 -- src/settling.rt:59:16
 add-cost : tie.Need-add-cost

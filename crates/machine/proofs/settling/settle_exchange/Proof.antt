@@ -1,6 +1,6 @@
 -- `machine::settling::settle_exchange` meets its contract: 15 with nothing changed, or the two slots exchanged.
-use mathlib.Core.Path.{_≡_, sym}
-use Prim.Native.Nat.{ℕ, _+_}
+use mathlib.Core.Path.{sym}
+use Prim.Native.Nat.{_+_}
 use native.Mathlib.Omega.{arith}
 use Rattle.paper.specs.Sizes.{entry-most}
 use Rattle.machine.proofs.Laws.{entry-length}
@@ -8,9 +8,6 @@ use Rattle.machine.proofs.Effects.{exchange-over, exchange-within}
 use borrow.Author.Needs.{needs}
 use Rattle.machine.proofs.settling.settle_exchange.Statement.{statement}
 use Rattle.machine.proofs.settling.settle_exchange.Tie as tie
-use Rattle.machine.proofs.settling.settle_exchange.Reads as reads
-use Rattle.machine.proofs.settling.settle_exchange.Lts as lts
-use Rattle.machine.proofs.slots.exchange.Reads as exchange-reads
 
 -- src/settling.rt:72:16
 mul-both : tie.Need-mul-both

@@ -6,9 +6,6 @@ use Rattle.machine.proofs.Effects.{operand-over, limited-within, puts-a
 use borrow.Author.Needs.{needs}
 use Rattle.machine.proofs.settling.settle_operand.Statement.{statement}
 use Rattle.machine.proofs.settling.settle_operand.Tie as tie
-use Rattle.machine.proofs.settling.settle_operand.Reads as reads
-use Rattle.machine.proofs.settling.settle_operand.Lts as lts
-use Rattle.machine.proofs.settling.settle.Reads as settle-reads
 
 -- src/settling.rt:37:9
 returns : tie.Need-returns

@@ -1,18 +1,15 @@
 -- `machine::slots::copy` meets its contract: the bytes of one slot go to the other within the scratch, and the length with them.
 use borrow.Author.Needs.{needs}
 use denote.Ref.{now}
-use mathlib.Core.Path.{_≡_, refl, sym, ap}
+use mathlib.Core.Path.{sym, ap}
 use Prim.Native.Nat.{ℕ}
 use native.Mathlib.Omega.{arith}
 use lib.ListN.{set}
-use Rattle.paper.specs.Sizes.{entry-most, scratch-least}
+use Rattle.paper.specs.Sizes.{entry-most}
 use Rattle.machine.specs.Slots.{put-in, put-length, entry-at}
 use Rattle.machine.proofs.Laws.{slot-ends, slot-within, entry-length}
 use Rattle.machine.proofs.slots.copy.Statement.{statement}
 use Rattle.machine.proofs.slots.copy.Tie as tie
-use Rattle.machine.proofs.slots.copy.Reads as reads
-use Rattle.machine.proofs.slots.copy.Lts as lts
-use Rattle.lent.proofs.copy_within.Reads as copy-within-reads
 
 -- src/slots.rt:42:17
 mul-count : tie.Need-mul-count

@@ -9,8 +9,6 @@ use Rattle.machine.specs.Slots.{entry-at}
 use Rattle.machine.proofs.Laws.{slot-ends, from-to}
 use Rattle.machine.proofs.slots.entry.Statement.{statement}
 use Rattle.machine.proofs.slots.entry.Tie as tie
-use Rattle.machine.proofs.slots.entry.Reads as reads
-use Rattle.machine.proofs.slots.entry.Lts as lts
 
 add-to : tie.Need-add-to
 unfolding entry-most

@@ -4,9 +4,6 @@ use borrow.Author.Needs.{needs}
 use Rattle.machine.proofs.Laws.{copy-slotted, exchanged-by-copies}
 use Rattle.machine.proofs.slots.exchange.Statement.{statement}
 use Rattle.machine.proofs.slots.exchange.Tie as tie
-use Rattle.machine.proofs.slots.exchange.Reads as reads
-use Rattle.machine.proofs.slots.exchange.Lts as lts
-use Rattle.machine.proofs.slots.copy.Reads as copy-reads
 
 -- src/slots.rt:53:5
 copy-requires : tie.Need-copy-requires

@@ -1,15 +1,12 @@
 -- `machine::slots::put` meets its contract: one copy into the slot, and its length.
 use borrow.Author.Needs.{needs}
 use denote.Ref.{now}
-use mathlib.Core.Path.{_≡_, refl}
+use mathlib.Core.Path.{refl}
 use Rattle.paper.specs.Sizes.{entry-most}
 use Rattle.machine.specs.Slots.{put-in, put-length}
 use Rattle.machine.proofs.Laws.{room}
 use Rattle.machine.proofs.slots.put.Statement.{statement}
 use Rattle.machine.proofs.slots.put.Tie as tie
-use Rattle.machine.proofs.slots.put.Reads as reads
-use Rattle.machine.proofs.slots.put.Lts as lts
-use Rattle.lent.proofs.copy_in.Reads as copy-in-reads
 
 -- src/slots.rt:32:33
 mul-copy-in : tie.Need-mul-copy-in

@@ -1,25 +1,23 @@
 -- `machine::stepping::binary` meets its contract: what the operator gives of the two entries, put in their place.
 use borrow.Author.Needs.{needs}
-use mathlib.Core.Path.{ap, _∙_}
 use native.Mathlib.Omega.{arith}
 use Rattle.paper.specs.Sizes.{entry-most}
-use Rattle.numbers.specs.Operators.{binary-of}
 use Rattle.machine.proofs.Laws.{entry-read}
-use Rattle.machine.proofs.Operands.{operator-meant, operator-scale}
+use Rattle.machine.proofs.Operands.{operator-scale}
 use Rattle.machine.proofs.Effects.{gave-fits, binary-gave, settles-as}
 use Rattle.machine.proofs.stepping.binary.Statement.{statement}
 use Rattle.machine.proofs.stepping.binary.Tie as tie
 
 binary-requires : tie.Need-binary-requires
 binary-requires c κs =
-    let start = c .before .before .before .before .before .before .before .before .before .before in
-    (rw (c .before .as-operator .ensures) (operator-scale (start .pre .2)), start .pre .3)
+    let start = c .before .before .before .before .before .before .before .before .before in
+    (operator-scale (start .pre .2), start .pre .3)
 
 settle-given-requires : tie.Need-settle-given-requires
 unfolding entry-most
 settle-given-requires c κs =
     let gave = c .before .before .before .before .before in
-    let start = gave .before .before .before .before .before .before .before .before .before .before .before in
+    let start = gave .before .before .before .before .before .before .before .before .before .before in
     let slotted = start .pre .0 in
     let room = start .pre .1 in (
       (
@@ -27,8 +25,8 @@ settle-given-requires c κs =
         omega arith,
         omega (
           arith,
-          entry-read slotted _ (omega arith) (gave .before .before .before .before .before .entry .ensures),
-          entry-read slotted _ (omega arith) (gave .before .before .before .entry2 .ensures),
+          entry-read slotted _ (omega arith) (gave .before .before .before .before .entry .ensures),
+          entry-read slotted _ (omega arith) (gave .before .before .entry2 .ensures),
         ),
       ),
       (gave-fits entry-most _ (gave .binary .ensures .0), omega (arith, start .pre .3, gave .binary .kept)),
@@ -38,9 +36,8 @@ returns : tie.Need-returns
 returns c =
     let settled = c .before .before .before .before in
     let gave = settled .before .before .before .before .before .before in
-    let meant = ap binary-of (gave .before .before .as-operator .ensures) ∙ operator-meant (gave .before .before .before .before .before .before .before .before .before .before .before .args .o) in
     settles-as
-    (binary-gave _ _ _ _ _ (gave .before .before .before .before .before .entry .ensures) (gave .before .before .before .entry2 .ensures) meant (gave .binary .ensures))
+    (binary-gave _ _ _ _ _ _ (gave .before .before .before .before .entry .ensures) (gave .before .before .entry2 .ensures) (gave .binary .ensures))
     (settled .settle-given .ensures)
 
 pub binary-spec : {M : Type 1} → statement M
@@ -51,7 +48,6 @@ binary-spec =
     (λ c. search needs)
     (λ c κs. search needs)
     (λ c. search needs)
-    (λ c κs. search needs)
     binary-requires
     settle-given-requires
     (λ c. search needs)

@@ -1,7 +1,6 @@
 -- `machine::stepping::step` meets its contract: each elm as the function for it leaves the slots, on the entries that it finds.
 use borrow.Author.Needs.{needs}
 use native.Mathlib.Omega.{arith}
-use mathlib.Core.Path.{_∙_}
 use Rattle.machine.proofs.Effects.{settles-as}
 use Rattle.machine.proofs.Operands.{push-operand, binary-operator, convert-conversion}
 use Rattle.machine.proofs.Elms.{

@@ -4,10 +4,6 @@ use native.Mathlib.Omega.{arith}
 use Rattle.masks.proofs.GroupLaws.{Turned, turned-none, turned-room, turned-again, turned-all}
 use Rattle.masks.proofs.text.integer_text.Statement.{statement}
 use Rattle.masks.proofs.text.integer_text.Tie as tie
-use Rattle.masks.proofs.text.integer_text.Reads as reads
-use Rattle.masks.proofs.text.integer_text.Lts as lts
-use Rattle.masks.proofs.text.put.Reads as put-reads
-use Rattle.masks.proofs.text.put_when.Reads as put-when-reads
 
 abbrev Inv-loop : tie.InvT-loop
 Inv-loop text₀ at commas n place₀ rest₀ count₀ text place rest count = Turned text₀ place₀ commas n text place rest count

@@ -3,9 +3,10 @@ use mathlib.Core.Path.{_≡_}
 use Prim.Native.Nat.{ℕ}
 use borrow.Author.Needs.{needs}
 use Rattle.paper.specs.Numbers.{holds}
+use Rattle.codes.specs.declared.Relation.{Relation}
+use Rattle.codes.specs.Meaning.{relation-of}
 use Rattle.numbers.specs.declared.Order.{Order}
-use Rattle.numbers.specs.declared.Relation.{Relation}
-use Rattle.numbers.specs.Orders.{order-of, relation-of}
+use Rattle.numbers.specs.Orders.{order-of}
 use Rattle.numbers.specs.Scans.{rank-of, rank-test}
 use Rattle.numbers.proofs.ComparingLaws.{rank-holds}
 use Rattle.numbers.proofs.comparing.holds.Statement.{statement}

@@ -2,7 +2,8 @@
 use mathlib.Core.Path.{ap}
 use native.Mathlib.Omega.{arith}
 use borrow.Author.Needs.{needs}
-use Rattle.numbers.specs.Operators.{binary-of, scale-of}
+use Rattle.codes.specs.Meaning.{operator-of}
+use Rattle.numbers.specs.Operators.{scale-of}
 use Rattle.numbers.proofs.EntryLaws.{as-told}
 use Rattle.numbers.proofs.entries.binary.Statement.{statement}
 use Rattle.numbers.proofs.entries.binary.Tie as tie
@@ -11,7 +12,7 @@ compute-requires : tie.Need-compute-requires
 compute-requires c κs = omega (arith, ap scale-of (c .before .before .op .given .1))
 
 returns : tie.Need-returns
-unfolding binary-of
+unfolding operator-of
 returns c =
     let k = c .before .before in
     let o = k .before .before .before in
@@ -20,7 +21,7 @@ returns c =
     (k .compute .ensures)
 
 returns-2 : tie.Need-returns-2
-unfolding binary-of
+unfolding operator-of
 returns-2 c =
     let k = c .before .before in
     let o = k .before .before in
@@ -29,7 +30,7 @@ returns-2 c =
     (k .concatenate .ensures)
 
 returns-3 : tie.Need-returns-3
-unfolding binary-of
+unfolding operator-of
 returns-3 c =
     let k = c .before .before in
     let o = k .before .before .before in

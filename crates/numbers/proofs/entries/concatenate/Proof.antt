@@ -12,13 +12,13 @@ returns c =
     let a = c .before .before .before .before .args in
     too-long (a .second .now) (a .top .now) (a .out .now) (c .if1 .taken)
 
-copy-requires : tie.Need-copy-requires
+copy-in-requires : tie.Need-copy-in-requires
 unfolding entry-most
-copy-requires c κs = omega arith
+copy-in-requires c κs = omega arith
 
-copy-requires-2 : tie.Need-copy-requires-2
+copy-in-requires-2 : tie.Need-copy-in-requires-2
 unfolding entry-most
-copy-requires-2 c κs = omega (arith, c .before .before .before .copy .kept .1 .0)
+copy-in-requires-2 c κs = omega (arith, c .before .before .before .copy-in .kept .1 .0)
 
 returns-2 : tie.Need-returns-2
 unfolding entry-most
@@ -27,15 +27,15 @@ returns-2 c =
     let j = k .before .before .before .before in
     let i = j .before .before in
     let a = i .before .before .before .before .args in
-    put-after (a .second .now) (a .top .now) (a .out .now) _ (j .copy .last .1 .0) (k .copy2 .last .1 .0) (i .if1 .left) refl (j .copy .ensures)
-    (k .copy2 .ensures)
+    put-after (a .second .now) (a .top .now) (a .out .now) _ (j .copy-in .last .1 .0) (k .copy-in2 .last .1 .0) (i .if1 .left) refl (j .copy-in .ensures)
+    (k .copy-in2 .ensures)
 
 pub concatenate-spec : {M : Type 1} → statement M
 concatenate-spec = tie.close
     (tie.spec
     (λ c. omega arith)
     returns
-    copy-requires
-    copy-requires-2
-    (λ c. c .before .before .copy2 .kept .1 .0 ∙ c .before .before .before .before .before .before .copy .kept .1 .0)
+    copy-in-requires
+    copy-in-requires-2
+    (λ c. c .before .before .copy-in2 .kept .1 .0 ∙ c .before .before .before .before .before .before .copy-in .kept .1 .0)
     returns-2)

@@ -23,9 +23,9 @@ returns c =
     (f .least .ensures ∙ ap (λ (m : ℕ). min m (length (a .third .now))) (j .skipped .ensures))
     (z .least2 .ensures ∙ ap (λ (n : ℕ). min n (length (a .third .now) - f .least .result)) (k .taken .ensures)) (c .if1 .taken)
 
-copy-requires : tie.Need-copy-requires
+copy-in-requires : tie.Need-copy-in-requires
 unfolding entry-most
-copy-requires c κs =
+copy-in-requires c κs =
     let z = c .before .before .before in
     let f = z .before .before in
     let third = f .before .before .before .before .args .third .now in
@@ -43,8 +43,8 @@ returns-2 c =
     let a = j .before .before .before .args in
     cut-short (skips (whole (a .start))) (takes (whole (a .count))) (f .least .result) (z .least2 .result) (a .third .now) (a .out .now)
     (f .least .ensures ∙ ap (λ (m : ℕ). min m (length (a .third .now))) (j .skipped .ensures))
-    (z .least2 .ensures ∙ ap (λ (n : ℕ). min n (length (a .third .now) - f .least .result)) (k .taken .ensures)) (y .copy .last .1 .0)
-    (i .if1 .left) (y .copy .ensures)
+    (z .least2 .ensures ∙ ap (λ (n : ℕ). min n (length (a .third .now) - f .least .result)) (k .taken .ensures)) (y .copy-in .last .1 .0)
+    (i .if1 .left) (y .copy-in .ensures)
 
 pub cut-spec : {M : Type 1} → statement M
 cut-spec =
@@ -60,6 +60,6 @@ cut-spec =
     (λ c. search needs)
     (λ c. search needs)
     (λ c. search needs)
-    copy-requires
+    copy-in-requires
     (λ c. search needs)
     returns-2)

@@ -4,7 +4,7 @@ use native.Mathlib.Omega.{arith}
 use borrow.Author.Needs.{needs}
 use Rattle.paper.specs.Refusals.{Res}
 use Rattle.paper.specs.Numbers.{Number as Whole}
-use Rattle.numbers.specs.declared.Arithmetic.{Arithmetic}
+use Rattle.codes.specs.declared.Arithmetic.{Arithmetic}
 use Rattle.numbers.specs.Forms.{whole}
 use Rattle.numbers.specs.Operators.{scales}
 use Rattle.numbers.specs.Reckonings.{reckoning}

@@ -1,11 +1,13 @@
 -- `writing::power` meets its contract: the table's rule is one test, which antt computes over the whole table. Assumes nothing.
+use mathlib.Core.Path.{refl}
 use mathlib.Core.Bool.{Bool}
 use mathlib.Core.List.{List, [], _∷_}
 use Prim.Native.Nat.{ℕ, _^_}
-use lib.Dec.{eqb, eqb→eq}
+use lib.Dec.{eqb}
 use lib.ListN.{getD}
 use borrow.Author.Needs.{needs}
-use Rattle.numbers.proofs.Table.{at}
+use borrow.Author.Tests.{eqb-true}
+use Rattle.numbers.proofs.Table.{passed}
 use Rattle.numbers.proofs.writing.power.Statement.{statement}
 use Rattle.numbers.proofs.writing.power.Tie as tie
 
@@ -14,12 +16,12 @@ powers =
     1 ∷ 10 ∷ 100 ∷ 1_000 ∷ 10_000 ∷ 100_000 ∷ 1_000_000 ∷ 10_000_000 ∷ 100_000_000 ∷ 1_000_000_000 ∷ 10_000_000_000 ∷ 100_000_000_000
     ∷ 1_000_000_000_000 ∷ 10_000_000_000_000 ∷ 100_000_000_000_000 ∷ 1_000_000_000_000_000 ∷ []
 
-right : ℕ → ℕ → Bool
-right k x = eqb x (10 ^ k)
+right : ℕ → Bool
+right k = eqb (getD powers k 0) (10 ^ k)
 
 returns : tie.Need-returns
 unfolding powers right
-returns c = eqb→eq (getD powers (c .args .n) 0) (10 ^ c .args .n) (at right powers tt (c .args .n) (search needs))
+returns c = eqb-true (getD powers (c .args .n) 0) (10 ^ c .args .n) (passed right 16 (c .args .n) refl (search needs))
 
 pub power-spec : {M : Type 1} → statement M
 power-spec = tie.close (tie.spec (λ c. search needs) (λ c. search needs) returns)

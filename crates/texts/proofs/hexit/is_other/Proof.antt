@@ -1,5 +1,4 @@
 -- `hexit::is_other` tells the bytes that are no hex digits: digits, capitals and small letters are. Assumes nothing.
-use mathlib.Core.Path.{_∙_}
 use Prim.Native.Nat.{_-_, _+_}
 use borrow.Author.Needs.{needs}
 use Rattle.paper.specs.Bytes.{is-digit, within}
