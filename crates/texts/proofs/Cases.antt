@@ -1,36 +1,20 @@
 -- The case of a letter is one bit of its byte: proved by one test that antt computes at every byte.
-use mathlib.Core.Path.{_≡_, refl, sym}
-use mathlib.Core.Bool.{Bool, true, false, _&&_, true≢false}
-use Prim.Native.Nat.{ℕ, zero, suc, _<_}
-use native.Mathlib.Omega.{arith}
+use mathlib.Core.Path.{_≡_, refl}
+use mathlib.Core.Bool.{Bool, true, false, _&&_}
+use Prim.Native.Nat.{ℕ, _<_}
 use lib.Bits.{bitAnd, bitOr}
 use lib.Dec.{eqb}
-use borrow.Author.Tests.{eqb-true, eqb-false}
+use borrow.Author.Tests.{eqb-true}
 use Rattle.paper.specs.Bytes.{if_then_else_, is-letter, is-upper, is-lower}
 use Rattle.paper.specs.Texts.{raised, lowered}
-
--- the test passes at each number below n
-abbrev every : (ℕ → Bool) → ℕ → Bool
-every f zero = true
-every f (suc n) = f n && every f n
-
-both : (s t : Bool) → (s && t) ≡ true → (s ≡ true) × (t ≡ true)
-both true t e = (refl, e)
-both false t e = absurd (true≢false (sym e))
-
-at : (f : ℕ → Bool) (n : ℕ) → every f n ≡ true → (k : ℕ) → k < n → f k ≡ true
-at f zero e k h = absurd (omega arith)
-at f (suc n) e k h = go (eqb k n) refl (λ (l : k < n). at f n (both (f n) (every f n) e .1) k l)
-  where
-    go : (t : Bool) → eqb k n ≡ t → (k < n → f k ≡ true) → f k ≡ true
-    go true s rest = rw (eqb-true k n s) (both (f n) (every f n) e .0)
-    go false s rest = let d : k ≡ n → ⊥ = eqb-false k n s in rest (omega arith)
+use Rattle.paper.proofs.Calendar.{both}
+use Rattle.numbers.proofs.Table.{below, passed}
 
 -- set in a small letter, clear in a capital; any other byte has one form
 cased-by-bit : ℕ → Bool
 cased-by-bit b = if is-letter b then (eqb (bitOr b 32) (lowered b) && eqb (bitAnd b 223) (raised b)) else (eqb b (lowered b) && eqb b (raised b))
 
-all-bytes : every cased-by-bit 256 ≡ true
+all-bytes : below cased-by-bit 256 ≡ true
 unfolding cased-by-bit is-letter is-upper is-lower lowered raised
 all-bytes = refl
 
@@ -38,7 +22,7 @@ module _ (b : ℕ) (byte : b < 256) where
   cases : (is-letter b ≡ true → (bitOr b 32 ≡ lowered b) × (bitAnd b 223 ≡ raised b)) × (is-letter b ≡ false → (b ≡ lowered b) × (b ≡ raised b))
   unfolding cased-by-bit
   cases =
-      let tested = at cased-by-bit 256 all-bytes b byte in
+      let tested = passed cased-by-bit 256 b all-bytes byte in
       (λ t. same (bitOr b 32) (bitAnd b 223) (rw t at tested), λ t. same b b (rw t at tested))
     where
       same : (x y : ℕ) → (eqb x (lowered b) && eqb y (raised b)) ≡ true → (x ≡ lowered b) × (y ≡ raised b)
