@@ -1,24 +1,47 @@
-// Runs finding, extracting and replacing on document 01's examples and on both sides of the limits, a line for each.
-// Marks are drawn as in the paper, `^` for 254, `]` for 253 and `\` for 252, and a zero byte as `.`.
+// Runs finding, extracting and replacing on a table of cases, a line of standard input each; a line with no bar is a remark.
+// A case is `find|ADDRESS|RECORD` or `replace|ADDRESS|RECORD|ELEMENT|ROOM`; what a title behind it names is too long to be written.
 // That the answers are right is proved of `records`; this shows them, and what it writes is compared with a stored text.
+use cases::field;
+use cases::number;
 use cases::quote;
 use cases::say;
 use cases::say_number;
 use cases::show;
 use cases::spelled;
+use libc::STDIN_FILENO;
 use paper::Given;
-use paper::Mark;
+use paper::Limit;
 use records::Found;
 ghost use Prim.Native.Nat.{_≤_};
 
-fn say_address(a: u64, v: u64, s: u64) {
+struct Address {
+    a: u64,
+    v: u64,
+    s: u64,
+}
+
+fn typed_address(line: &[u8]) -> Address {
+    let text = field(line, 1, b'|');
+    Address {
+        a: number(field(text, 0, b',')),
+        v: number(field(text, 1, b',')),
+        s: number(field(text, 2, b',')),
+    }
+}
+
+// What is done, and to which place of which record.
+fn say_case(line: &[u8]) {
+    say(field(line, 0, b'|'));
+    say(b" ");
+    show(field(line, 2, b'|'));
     say(b" (");
-    say_number(a);
-    say(b",");
-    say_number(v);
-    say(b",");
-    say_number(s);
+    say(field(line, 1, b'|'));
     say(b")");
+}
+
+fn say_refused(n: u64) {
+    say(b": refused ");
+    say_number(n);
 }
 
 fn say_found(found: Found) {
@@ -30,10 +53,7 @@ fn say_found(found: Found) {
             say_number(len as u64);
         }
         Found::Missing => say(b": missing"),
-        Found::Refused(n) => {
-            say(b": refused ");
-            say_number(n);
-        }
+        Found::Refused(n) => say_refused(n),
     }
 }
 
@@ -43,207 +63,111 @@ fn say_given(given: Given) {
             say(b": length ");
             say_number(n as u64);
         }
-        Given::Refused(n) => {
-            say(b": refused ");
-            say_number(n);
-        }
+        Given::Refused(n) => say_refused(n),
     }
 }
 
-// Where a part is, and then the part itself.
-fn finding(text: &[u8], a: u64, v: u64, s: u64) {
-    let mut buffer = [0u8; 64];
-    let n = spelled(text, true, &mut buffer);
-    say(b"find ");
-    show(text);
-    say_address(a, v, s);
-    say_found(records::find(&buffer[..n], a, v, s));
+// A text in quotes, and the line's end.
+fn say_last(text: &[u8]) {
     say(b" ");
-    quote(records::extract(&buffer[..n], a, v, s));
+    quote(text);
     say(b"\n");
+}
+
+// Where a part is, and then the part itself.
+fn find(line: &[u8], item: &[u8]) {
+    let at = typed_address(line);
+    let title = field(line, 3, b'|');
+    let found = records::find(item, at.a, at.v, at.s);
+    if title.len() == 0 {
+        say_case(line);
+        say_found(found);
+        say_last(records::extract(item, at.a, at.v, at.s));
+    } else {
+        say(title);
+        say_found(found);
+        say(b"\n");
+    }
+}
+
+fn show_find(line: &[u8]) {
+    let mut item = [0u8; Limit::RECORD + 1];
+    let n = spelled(field(line, 2, b'|'), true, &mut item);
+    find(line, &item[..n]);
 }
 
 // What is answered, and then the whole output.
-fn replaced(item: &[u8], a: u64, v: u64, s: u64, new: &[u8], out: &mut [u8]) {
-    let given = records::replace(item, a, v, s, new, out);
-    say_given(given);
-    say(b" ");
-    quote(out);
-    say(b"\n");
+fn replace(line: &[u8], item: &[u8], new: &[u8], out: &mut [u8]) {
+    let at = typed_address(line);
+    let title = field(line, 5, b'|');
+    let given = records::replace(item, at.a, at.v, at.s, new, out);
+    if title.len() == 0 {
+        say_case(line);
+        say(b" := ");
+        show(field(line, 3, b'|'));
+        say_given(given);
+        say_last(out);
+    } else {
+        say(title);
+        say_given(given);
+        say(b"\n");
+    }
+}
+
+// An output's length: at most a record's.
+fn room(line: &[u8]) -> usize
+    ensures { λ r. ⌜ r ≤ 32_768 ⌝ }
+{
+    let n = number(field(line, 4, b'|'));
+    if n < 32_768 {
+        return n as usize;
+    }
+    32_768
 }
 
 // The output held question marks.
-fn replacing(text: &[u8], a: u64, v: u64, s: u64, new: &[u8], room: usize)
-    requires { ⌜ room ≤ 64 ⌝ }
-{
-    let mut buffer = [0u8; 64];
-    let mut element = [0u8; 64];
-    let mut out = [b'?'; 64];
-    say(b"replace ");
-    show(text);
-    say_address(a, v, s);
-    say(b" := ");
-    show(new);
-    let n = spelled(text, true, &mut buffer);
-    let k = spelled(new, true, &mut element);
-    replaced(&buffer[..n], a, v, s, &element[..k], &mut out[0..room]);
+fn show_replace(line: &[u8]) {
+    let mut item = [0u8; Limit::RECORD + 1];
+    let mut new = [0u8; Limit::ENTRY + 1];
+    let mut out = [b'?'; Limit::RECORD];
+    let n = spelled(field(line, 2, b'|'), true, &mut item);
+    let k = spelled(field(line, 3, b'|'), true, &mut new);
+    let size = room(line);
+    replace(line, &item[..n], &new[..k], &mut out[0..size]);
 }
 
-// "`K1` has no attribute 1; `K1^` has an empty one."
-fn empties() {
-    finding(b"K1", 1, 0, 0);
-    finding(b"K1^", 1, 0, 0);
-    finding(b"K1^", 1, 1, 1);
-    finding(b"K1^", 1, 2, 0);
-    finding(b"", 0, 0, 0);
-    finding(b"K1^^B", 1, 0, 0);
-    finding(b"K1^^B", 2, 1, 1);
+fn first_byte(text: &[u8]) -> u8 {
+    if text.len() == 0 {
+        return 0;
+    }
+    text[0]
 }
 
-// Parts at every depth, and behind the last one.
-fn depths(text: &[u8]) {
-    finding(text, 0, 0, 0);
-    finding(text, 1, 0, 0);
-    finding(text, 1, 1, 2);
-    finding(text, 1, 2, 0);
-    finding(text, 1, 2, 2);
-    finding(text, 1, 3, 0);
-    finding(text, 1, 4, 0);
-    finding(text, 2, 1, 1);
-    finding(text, 3, 0, 0);
+fn show_line(line: &[u8]) {
+    if field(line, 1, b'|').len() == 0 {
+        return;
+    }
+    match first_byte(line) {
+        b'f' => show_find(line),
+        b'r' => show_replace(line),
+        _ => {}
+    }
 }
 
-// Refusal 3: ids of 48 and 49 bytes, and one with a mark.
-fn ids() {
-    finding(
-        b"IIIIIIIIIIIIIIIIIIIIIIIIIIIIIIIIIIIIIIIIIIIIIIII^A",
-        1,
-        0,
-        0,
-    );
-    finding(
-        b"IIIIIIIIIIIIIIIIIIIIIIIIIIIIIIIIIIIIIIIIIIIIIIIII^A",
-        1,
-        0,
-        0,
-    );
-    finding(b"K]1^A", 1, 0, 0);
-}
-
-// Refusal 4, and the last address that is in.
-fn addresses(text: &[u8]) {
-    finding(text, 999, 32_768, 32_768);
-    finding(text, 1_000, 0, 0);
-    finding(text, 1, 32_769, 0);
-    finding(text, 1, 0, 1);
-    finding(text, 0, 1, 0);
-}
-
-// "A missing place is made by adding marks only, as few as will do."
-fn made() {
-    replacing(b"K1^A", 3, 2, 1, b"X", 12);
-    replacing(b"K1", 1, 0, 0, b"", 6);
-    replacing(b"K1", 1, 1, 1, b"X", 6);
-    replacing(b"K1^A^B", 1, 2, 3, b"X", 12);
-    replacing(b"K1^A]B^C", 1, 1, 2, b"X", 12);
-}
-
-// A place that is there: what stands around it stays.
-fn kept() {
-    replacing(b"K1^A^B", 0, 0, 0, b"KEY", 12);
-    replacing(b"K1^A]B^C", 1, 1, 0, b"", 12);
-    replacing(b"K1^A\\B]C^D", 1, 1, 2, b"XYZ", 14);
-    replacing(b"K1^A\\B]C^D", 1, 0, 0, b"X", 14);
-}
-
-// A room that is just enough, refusals 16, 17, 3 and 4, and 1 for far too many marks.
-fn refusals() {
-    replacing(b"K1^A", 3, 2, 1, b"X", 8);
-    replacing(b"K1^A", 3, 2, 1, b"X", 7);
-    replacing(b"K1^A", 1, 0, 0, b"X]Y", 12);
-    replacing(
-        b"K1^A",
-        0,
-        0,
-        0,
-        b"IIIIIIIIIIIIIIIIIIIIIIIIIIIIIIIIIIIIIIIIIIIIIIII",
-        52,
-    );
-    replacing(
-        b"K1^A",
-        0,
-        0,
-        0,
-        b"IIIIIIIIIIIIIIIIIIIIIIIIIIIIIIIIIIIIIIIIIIIIIIIII",
-        52,
-    );
-    replacing(b"K1^A", 0, 1, 0, b"X", 12);
-    replacing(b"K1^A", 999, 32_768, 32_768, b"X", 12);
-}
-
-fn found(title: &[u8], item: &[u8], a: u64) {
-    say(title);
-    say_found(records::find(item, a, 0, 0));
-    say(b"\n");
-}
-
-fn changed(title: &[u8], item: &[u8], a: u64, new: &[u8], room: usize)
-    requires { ⌜ room ≤ 32_768 ⌝ }
-{
-    let mut out = [0u8; 32_768];
-    say(title);
-    say_given(records::replace(item, a, 0, 0, new, &mut out[0..room]));
-    say(b"\n");
-}
-
-// Records of 32,768 and 32,769 bytes, and refusals 1, 2 and 16 about them.
-fn long_records() {
-    let mut item = [b'A'; 32_769];
-    item[2] = Mark::ATTRIBUTE;
-    found(b"find in 32768 bytes", &item[0..32_768], 1);
-    found(b"find in 32769 bytes", &item[0..32_769], 1);
-    changed(
-        b"replace the id of 32768 bytes by one as long",
-        &item[0..32_768],
-        0,
-        b"KX",
-        32_768,
-    );
-    changed(
-        b"replace it by a longer one",
-        &item[0..32_768],
-        0,
-        b"K12",
-        32_768,
-    );
-    changed(
-        b"replace it, the output a byte too short",
-        &item[0..32_768],
-        0,
-        b"KX",
-        32_767,
-    );
-    item[32_767] = Mark::BUFFER;
-    found(b"find with a byte 251 at the end", &item[0..32_768], 1);
-    found(b"find with a byte 251 behind the end", &item[0..32_767], 1);
-}
-
-// Refusal 9.
-fn long_elements() {
-    let item = [b'K', b'1'];
-    let new = [b'N'; 1_025];
-    changed(b"replace by 1024 bytes", &item, 1, &new[0..1_024], 1_100);
-    changed(b"replace by 1025 bytes", &item, 1, &new[0..1_025], 1_100);
+fn show_lines(text: &[u8]) {
+    let mut at = 0;
+    while at < text.len() {
+        let end = cases::place(text, at, b'\n');
+        show_line(&text[at..end]);
+        if end == text.len() {
+            return;
+        }
+        at = end + 1;
+    }
 }
 
 fn main() {
-    empties();
-    depths(b"K1^A]B\\C]^D");
-    ids();
-    addresses(b"K1^A");
-    made();
-    kept();
-    refusals();
-    long_records();
-    long_elements();
+    let mut buffer = io::large_buffer();
+    let count = io::read_full(STDIN_FILENO, &mut buffer);
+    show_lines(&buffer[..count]);
 }
