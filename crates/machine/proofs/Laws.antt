@@ -146,9 +146,6 @@ module _ {scratch : Bytes} {lens : List ℕ} {scratch′ : Bytes} {lens′ : Lis
   pub after-other : (j : ℕ) → j ≢ k → entry-at scratch′ lens′ j ≡ entry-at scratch lens j
   after-other j ne = rw (put .0, put .1) (put-other slotted k bs here fit j ne)
 
-  pub after-above : (n : ℕ) → n ≤ k → stack-of scratch′ lens′ n ≡ stack-of scratch lens n
-  after-above n h = rw (put .0, put .1) (put-above slotted k bs here fit n h)
-
   pub after-on-top : stack-of scratch′ lens′ (suc k) ≡ bs ∷ stack-of scratch lens k
   after-on-top = rw (put .0, put .1) (put-on-top slotted k bs here fit)
 

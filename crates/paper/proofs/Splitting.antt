@@ -209,11 +209,6 @@ getD-alter-other (suc n) zero f (p ∷ ps) h = refl
 getD-alter-other (suc n) (suc k) f [] h = getD-alter-other n k f [] (λ e. h (ap suc e))
 getD-alter-other (suc n) (suc k) f (p ∷ ps) h = getD-alter-other n k f ps (λ e. h (ap suc e))
 
--- and is there, where it was or the n-th lies beyond it
-pub nth-alter-other : (n k : ℕ) (f : Bytes → Bytes) (ps : List Bytes) → k ≢ n → k < max (suc n) (length ps)
-    → nth k (alter n f ps) ≡ some (getD ps k [])
-nth-alter-other n k f ps h l = nth-inside k (alter n f ps) [] (rw alter-length l) ∙ ap some (getD-alter-other n k f ps h)
-
 -- Parts and their places.
 
 abbrev pub text-of : Option Part → Option Bytes

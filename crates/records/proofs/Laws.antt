@@ -67,10 +67,6 @@ upto-all m (b ∷ bs) = rw (not-within (suc m) m b (λ l k. omega arith)) (ap (�
 pub upto-mark : (m : ℕ) (bs : Bytes) → upto m m bs ≡ first-of (split m bs)
 upto-mark m bs = sym (upto-first m m (le-refl m) bs) ∙ ap (λ (l : Bytes). first-of (split m l)) (upto-all m bs)
 
--- up to a subvalue or a value mark, whichever comes first: the first element
-pub upto-element : (bs : Bytes) → upto subvalue-mark value-mark bs ≡ first-of (split subvalue-mark (first-of (split value-mark bs)))
-upto-element bs = sym (upto-first subvalue-mark value-mark (lit≤ tt) bs) ∙ ap (λ (l : Bytes). first-of (split subvalue-mark l)) (upto-mark value-mark bs)
-
 -- ---- the n-th piece
 
 -- a place is there where no mark is left to pass
