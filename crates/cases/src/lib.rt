@@ -81,6 +81,14 @@ pub fn quote(text: &[u8]) {
     say(b"\"");
 }
 
+// By which a case's kind is told; 0 of an empty text.
+pub fn first_byte(text: &[u8]) -> u8 {
+    if text.len() == 0 {
+        return 0;
+    }
+    text[0]
+}
+
 // The first n bytes, or all where there are fewer.
 pub fn front(text: &[u8], n: usize) -> &[u8] {
     if text.len() < n {

@@ -2,6 +2,7 @@
 // A case is `CODE|on|ELEMENT`, `CODE|typed|DATE` or `ELM|after|ENTRY|ENTRY`: out it comes with its answer or its refusal, marks drawn.
 // That the answers are right is proved of the crates below; this shows them, and what it writes is compared with a stored text.
 use cases::field;
+use cases::first_byte;
 use cases::long;
 use cases::quote;
 use cases::say;
@@ -192,13 +193,6 @@ fn show_after(line: &[u8]) {
         Elm::Substring => show_substring(line),
         _ => say_no_elm(text),
     }
-}
-
-fn first_byte(text: &[u8]) -> u8 {
-    if text.len() == 0 {
-        return 0;
-    }
-    text[0]
 }
 
 // By the word after the first bar: `on`, `typed` or `after`.

@@ -2,6 +2,7 @@
 // A case is `find|ADDRESS|RECORD` or `replace|ADDRESS|RECORD|ELEMENT|ROOM`; what a title behind it names is too long to be written.
 // That the answers are right is proved of `records`; this shows them, and what it writes is compared with a stored text.
 use cases::field;
+use cases::first_byte;
 use cases::number;
 use cases::quote;
 use cases::say;
@@ -134,13 +135,6 @@ fn show_replace(line: &[u8]) {
     let k = spelled(field(line, 3, b'|'), true, &mut new);
     let size = room(line);
     replace(line, &item[..n], &new[..k], &mut out[0..size]);
-}
-
-fn first_byte(text: &[u8]) -> u8 {
-    if text.len() == 0 {
-        return 0;
-    }
-    text[0]
 }
 
 fn show_line(line: &[u8]) {
