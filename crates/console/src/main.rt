@@ -9,10 +9,10 @@ use paper::Mark;
 ghost use mathlib.Core.Path.{_≡_};
 ghost use mathlib.Core.List.{map};
 ghost use Prim.Native.Nat.{_+_, _≤_};
-ghost use lib.ListN.{length, take, drop};
+ghost use lib.ListN.{length, drop};
 ghost use Rattle.paper.specs.Sizes.{number-digits, number-most, record-most};
 ghost use Rattle.paper.specs.Grammar.{all-read};
-ghost use Rattle.paper.specs.Program.{drawn, program, program-reads, answered, address-form};
+ghost use Rattle.paper.specs.Program.{drawn, program, answered, address-form};
 ghost use Rattle.lent.specs.Over.{over};
 ghost use Rattle.lent.specs.Scan.{upto};
 ghost use Rattle.console.specs.Lines.{numbered, shown, line-most};
@@ -90,15 +90,6 @@ fn respond<'a>(code: &'a [u8], address: &[u8], item: &'a [u8], line: &mut [u8]) 
     show(converted.number, converted.steps, &out[0..length], line)
 }
 
-fn front(input: &[u8]) -> &[u8]
-    ensures { λ r. ⌜ now r ≡ take program-reads (now (input .entry)) ⌝ }
-{
-    if input.len() <= READS {
-        return input;
-    }
-    &input[0..READS]
-}
-
 // "A line ends at byte 10", or with the text.
 fn line_end(text: &[u8], from: usize) -> usize
     requires { ⌜ from ≤ length (now text) ⌝ }
@@ -121,7 +112,7 @@ fn answer(input: &[u8], line: &mut [u8]) -> usize
     ensures { λ r. ⌜ r ≡ length (program (now (input .entry))) ⌝ }
     ensures { λ _. ⌜ now (line .exit) ≡ over (now (line .entry)) 0 (program (now (input .entry))) ⌝ }
 {
-    let text = front(input);
+    let text = lent::front(input, READS);
     let code_end = line_end(text, 0);
     let second = next_line(text, code_end);
     let address_end = line_end(text, second);

@@ -17,7 +17,7 @@ use Rattle.paper.specs.Converting.{Outcome, within-budget}
 use Rattle.lent.specs.Scan.{range, upto}
 use Rattle.paper.proofs.Ranges.{within-true}
 use Rattle.lent.proofs.Scans.{range-rest, length-upto}
-use Rattle.records.proofs.Laws.{take-upto}
+use Rattle.lent.proofs.Pieces.{take-upto}
 use Rattle.machine.specs.Slots.{Slotted}
 use Rattle.convert.specs.Gather.{gathered-in, Holds-answer, walked-of}
 use Rattle.convert.specs.Walk.{walked}

@@ -6,7 +6,7 @@ use native.Mathlib.Nat.{add-zero, add-suc, le-refl}
 use native.Mathlib.Numerals.{add-one}
 use native.Mathlib.Omega.{arith}
 use lib.ListN.{length, take, drop, getD, set, length-append, length-drop, length-set, List·getD-append}
-use lib.Seq.{take-length, drop-length, take-suc, drop-cons, drop-drop, drop-at, take-at, set-at, getD-drop, getD-take, append-snoc, length-take-le, paste, paste-zero, paste-suc, length-paste, drop-paste}
+use lib.Seq.{take-length, drop-length, take-suc, drop-cons, drop-drop, drop-at, take-at, set-at, getD-drop, getD-take, take-append-seam, drop-append-add, append-snoc, length-take-le, paste, paste-zero, paste-suc, length-paste, drop-paste}
 use Rattle.lent.specs.Over.{over}
 
 -- `over` as it computes, for a caller that has to look into it
@@ -37,6 +37,13 @@ over-front d s =
 -- the whole buffer: the bytes alone
 pub over-all : (d s : List ℕ) → length s ≡ length d → over d 0 s ≡ s
 over-all d s e = over-front d s ∙ ap (λ (k : ℕ). s ++ drop k d) e ∙ ap (λ (t : List ℕ). s ++ t) (drop-length d) ∙ append-nil s
+
+-- bytes in front, and others laid behind them: both, whatever room there is
+pub over-behind : (d s t : List ℕ) (n : ℕ) → n ≡ length s → over (over d 0 s) n t ≡ s ++ t ++ drop (length (s ++ t)) d
+over-behind d s t n e =
+    ap (λ (k : ℕ). over (over d 0 s) k t) e ∙ ap (λ (b : List ℕ). over b (length s) t) (over-front d s)
+    ∙ over-is (s ++ drop (length s) d) (length s) t
+    ∙ rw (take-append-seam, drop-append-add, drop-drop, length-append)
 
 -- bytes laid behind bytes that were laid: both at once
 pub over-over : (d : List ℕ) (at : ℕ) (s t : List ℕ) → at + length s + length t ≤ length d → over (over d at s) (at + length s) t ≡ over d at (s ++ t)

@@ -1,9 +1,10 @@
--- Any two outcomes that a contract of this crate allows are equal: of a scan its answer, of every other call what the lent buffer holds afterwards.
+-- Any two outcomes that a contract of this crate allows are equal: of a scan its answer, of a front its bytes, of every other call what the lent buffer holds afterwards.
 use mathlib.Core.Path.{_≡_, sym, _∙_}
 use contract.Lifetimes.{Lfts}
 use Rattle.lent.proofs.some_within.Reads as some-within
 use Rattle.lent.proofs.marked.Reads as marked
 use Rattle.lent.proofs.first_within.Reads as first-within
+use Rattle.lent.proofs.front.Reads as front
 use Rattle.lent.proofs.fill.Reads as fill
 use Rattle.lent.proofs.clear.Reads as clear
 use Rattle.lent.proofs.copy_in.Reads as copy-in
@@ -19,6 +20,9 @@ marked-settled κs a r r′ e e′ p q = p ∙ sym q
 
 first-within-settled : (κs : Lfts 1) → (a : _) (r r′ : _) (e e′ : _) → first-within.Post κs a r e → first-within.Post κs a r′ e′ → r ≡ r′
 first-within-settled κs a r r′ e e′ p q = p ∙ sym q
+
+front-settled : (κs : Lfts 1) → (a : _) (r r′ : _) (e e′ : _) → front.Post κs a r e → front.Post κs a r′ e′ → r .now ≡ r′ .now
+front-settled κs a r r′ e e′ p q = p ∙ sym q
 
 fill-settled : (κs : Lfts 1) → (a : _) (r r′ : _) (e e′ : _) → fill.Post κs a r e → fill.Post κs a r′ e′ → e .0 .now ≡ e′ .0 .now
 fill-settled κs a r r′ e e′ p q = p ∙ sym q

@@ -1,8 +1,9 @@
--- A scan of some of the bytes for one within two bounds.
+-- A scan of some of the bytes for one within two bounds, and the pieces that marks part.
 use Prim.Native.Nat.{ℕ, _-_}
 use mathlib.Core.List.{[], _∷_}
 use lib.ListN.{take, drop}
 use Rattle.paper.specs.Bytes.{Bytes, within, if_then_else_}
+use Rattle.paper.specs.Records.{split, nth, or-empty}
 
 -- the bytes from place `from` up to place `to`
 unfoldable pub range : Bytes → ℕ → ℕ → Bytes
@@ -12,3 +13,7 @@ range text from to = take (to - from) (drop from text)
 unfoldable pub upto : ℕ → ℕ → Bytes → Bytes
 upto low high [] = []
 upto low high (b ∷ bs) = if within low high b then [] else (b ∷ upto low high bs)
+
+-- the k-th piece between marks m, counted from 0; empty where it is missing
+abbrev pub piece : ℕ → ℕ → Bytes → Bytes
+piece m k bs = or-empty (nth k (split m bs))

@@ -49,6 +49,16 @@ pub fn first_within(text: &[u8], from: usize, to: usize, low: u8, high: u8) -> u
     to
 }
 
+// The first n bytes, or all where there are fewer.
+pub fn front(text: &[u8], n: usize) -> &[u8]
+    ensures { λ r. ⌜ now r ≡ take n (now (text .entry)) ⌝ }
+{
+    if text.len() <= n {
+        return text;
+    }
+    &text[0..n]
+}
+
 // `count` bytes b from place `at` on.
 pub fn fill(buf: &mut [u8], at: usize, count: usize, b: u8)
     requires { ⌜ at + count ≤ length (now buf) ⌝ }

@@ -6,7 +6,7 @@ use lib.ListN.{take}
 use lib.Dec.{eqb}
 use Rattle.paper.specs.Bytes.{Bytes, if_then_else_, ch, bytes}
 use Rattle.paper.specs.Sizes.{attribute-mark, value-mark, subvalue-mark, record-most, scratch-least}
-use Rattle.paper.specs.Records.{split, nth}
+use Rattle.paper.specs.Records.{split, nth, or-empty}
 use Rattle.paper.specs.Numbers.{decimal}
 use Rattle.paper.specs.Grammar.{Reader, _>>=_, _>>_, gives, this, numeral, all-read}
 use Rattle.paper.specs.Converting.{Outcome, convert}
@@ -25,10 +25,6 @@ program-budget = 1_000_000
 -- "only 65,536 bytes are read"
 abbrev pub program-reads : ℕ
 program-reads = 65_536
-
-abbrev pub or-empty : Option Bytes → Bytes
-or-empty none = []
-or-empty (some bs) = bs
 
 -- "A line ends at byte 10"; "missing lines are empty"
 unfoldable pub line : ℕ → Bytes → Bytes

@@ -67,6 +67,10 @@ unfoldable pub placed : ℕ → List Bytes → List Part
 placed start [] = []
 placed start (p ∷ ps) = record { start = start; text = p } ∷ placed (start + length p + 1) ps
 
+abbrev pub or-empty : Option Bytes → Bytes
+or-empty none = []
+or-empty (some bs) = bs
+
 abbrev pub text-or-empty : Option Part → Bytes
 text-or-empty none = []
 text-or-empty (some p) = p .text

@@ -15,7 +15,8 @@ use Rattle.paper.proofs.Splitting.{join-split}
 use Rattle.lent.specs.Scan.{upto}
 use Rattle.records.specs.Scan.{skip, spot-at, spot, marks, changed}
 use Rattle.records.specs.declared.Stop.{Stop}
-use Rattle.records.proofs.Laws.{within-next, upto-all, drop-tail, take-upto}
+use Rattle.lent.proofs.Pieces.{take-upto}
+use Rattle.records.proofs.Laws.{within-next, upto-all, drop-tail}
 
 -- ---- joining
 

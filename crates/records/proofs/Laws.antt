@@ -5,7 +5,6 @@ use mathlib.Core.List.{List, [], _∷_}
 use mathlib.Core.Option.{Option, none, some}
 use Prim.Native.Nat.{ℕ, zero, suc, _+_, _-_, _≤_}
 use native.Mathlib.Numerals.{lt-of-le-of-ne}
-use native.Mathlib.Nat.{le-refl}
 use native.Mathlib.Omega.{arith}
 use lib.ListN.{length, take, drop, length-append, length-drop, length-replicate}
 use lib.Seq.{drop-drop, length-take-le}
@@ -17,6 +16,7 @@ use Rattle.paper.specs.Records.{opened, split, first-of, Part, placed, pieces, 
 use Rattle.lent.specs.Scan.{range, upto}
 use Rattle.paper.proofs.Ranges.{within-yes, within-true, not-within}
 use Rattle.lent.proofs.Scans.{range-rest, length-upto}
+use Rattle.lent.proofs.Pieces.{first-opened, take-upto}
 use Rattle.records.specs.Scan.{skip, spot-at, spot, marks, made, changed, changed-length}
 use Rattle.paper.specs.Refusals.{given}
 use Rattle.records.specs.Found.{found-of}
@@ -28,11 +28,6 @@ no-truth : false ≡ true → ⊥
 no-truth e = true≢false (sym e)
 
 -- ---- the first piece
-
-first-opened : (t : Bool) (b : ℕ) (ps : List Bytes) → first-of (opened t b ps) ≡ (if t then [] else (b ∷ first-of ps))
-first-opened true b ps = refl
-first-opened false b [] = refl
-first-opened false b (p ∷ ps) = refl
 
 -- within m .. high: above m, or the mark m itself
 pub within-next : (m high b : ℕ) (t u : Bool) → m ≤ high → within (suc m) high b ≡ t → eqb b m ≡ u → within m high b ≡ t || u
@@ -62,10 +57,6 @@ pub upto-all : (m : ℕ) (bs : Bytes) → upto (suc m) m bs ≡ bs
 unfolding upto
 upto-all m [] = refl
 upto-all m (b ∷ bs) = rw (not-within (suc m) m b (λ l k. omega arith)) (ap (λ (l : Bytes). b ∷ l) (upto-all m bs))
-
--- up to one mark: the first piece by it
-pub upto-mark : (m : ℕ) (bs : Bytes) → upto m m bs ≡ first-of (split m bs)
-upto-mark m bs = sym (upto-first m m (le-refl m) bs) ∙ ap (λ (l : Bytes). first-of (split m l)) (upto-all m bs)
 
 -- ---- the n-th piece
 
@@ -127,15 +118,6 @@ module _ (m : ℕ) (low : m ≤ attribute-mark) (item : Bytes) where
   nth-skip (b ∷ bs) at (suc n) e = nth-byte b bs at n (within (suc m) attribute-mark b) (eqb b m) refl refl (λ k. nth-skip bs (suc at) k (drop-tail at b item bs e))
 
 -- ---- the place of an address
-
-take-byte : (t : Bool) (b : ℕ) (bs l : Bytes) → take (length l) bs ≡ l → take (length (if t then [] else (b ∷ l))) (b ∷ bs) ≡ (if t then [] else (b ∷ l))
-take-byte true b bs l e = refl
-take-byte false b bs l e = ap (λ (r : Bytes). b ∷ r) e
-
-pub take-upto : (low high : ℕ) (bs : Bytes) → take (length (upto low high bs)) bs ≡ upto low high bs
-unfolding upto
-take-upto low high [] = refl
-take-upto low high (b ∷ bs) = take-byte (within low high b) b bs (upto low high bs) (take-upto low high bs)
 
 -- what stands at a spot, where no mark is left to be made
 unfoldable pub spot-part : Bytes → Spot → Option Part

@@ -14,7 +14,7 @@ use Rattle.records.specs.Found.{lawful-find}
 use Rattle.lent.specs.Scan.{range, upto}
 use Rattle.records.specs.Scan.{is-either}
 use Rattle.lent.proofs.Scans.{range-rest, length-upto}
-use Rattle.records.proofs.Laws.{upto-mark, take-upto}
+use Rattle.lent.proofs.Pieces.{upto-mark, take-upto}
 
 -- a test that refuses with a number above 0
 pub data Told : Res (Unit {0}) → Type 0 where

@@ -5,15 +5,16 @@ use borrow.Author.Needs.{needs}
 use denote.Ref.{now}
 use lib.ListN.{length}
 use Rattle.lent.specs.Over.{over}
-use Rattle.console.proofs.Reading.{end-inside, answers}
+use Rattle.lent.proofs.Pieces.{end-inside}
+use Rattle.console.proofs.Reading.{answers}
 use Rattle.console.proofs.answer.Statement.{statement}
 use Rattle.console.proofs.answer.Tie as tie
 
 next-line-requires : tie.Need-next-line-requires
-next-line-requires c κs = end-inside _ 0 (omega arith) (c .line-end .ensures) .1
+next-line-requires c κs = end-inside 10 _ 0 (omega arith) (c .line-end .ensures) .1
 
 next-line-requires-2 : tie.Need-next-line-requires-2
-next-line-requires-2 c κs = end-inside _ _ (c .before .next-line .ensures .0) (c .line-end2 .ensures) .1
+next-line-requires-2 c κs = end-inside 10 _ _ (c .before .next-line .ensures .0) (c .line-end2 .ensures) .1
 
 returns : tie.Need-returns
 returns c =
@@ -32,13 +33,13 @@ answer-spec =
     (λ c κs. search needs)
     (λ c. search needs)
     (λ c. search needs)
-    (λ c. omega (arith, end-inside (now (c .before .before .before .before .before .front .result)) 0 (omega arith) (c .before .before .before .before .line-end .ensures)))
-    (λ c. omega (arith, end-inside (now (c .before .before .before .before .before .before .front .result)) (c .before .before .before .before .next-line .result) (c .before .before .before .before .next-line .ensures .0) (c .before .before .before .line-end2 .ensures)))
-    (λ c. omega (arith, end-inside (now (c .before .before .before .before .before .before .front .result)) (c .before .before .before .before .next-line .result) (c .before .before .before .before .next-line .ensures .0) (c .before .before .before .line-end2 .ensures)))
-    (λ c. omega (arith, end-inside (now (c .before .before .before .before .before .before .front .result)) (c .before .before .before .before .next-line .result) (c .before .before .before .before .next-line .ensures .0) (c .before .before .before .line-end2 .ensures)))
-    (λ c. omega (arith, end-inside (now (c .before .before .before .before .before .before .before .front .result)) (c .before .before .before .next-line2 .result) (c .before .before .before .next-line2 .ensures .0) (c .before .before .line-end3 .ensures)))
-    (λ c. omega (arith, end-inside (now (c .before .before .before .before .before .before .before .front .result)) (c .before .before .before .next-line2 .result) (c .before .before .before .next-line2 .ensures .0) (c .before .before .line-end3 .ensures)))
-    (λ c. omega (arith, end-inside (now (c .before .before .before .before .before .before .before .front .result)) (c .before .before .before .next-line2 .result) (c .before .before .before .next-line2 .ensures .0) (c .before .before .line-end3 .ensures)))
+    (λ c. omega (arith, end-inside 10 (now (c .before .before .before .before .before .front .result)) 0 (omega arith) (c .before .before .before .before .line-end .ensures)))
+    (λ c. omega (arith, end-inside 10 (now (c .before .before .before .before .before .before .front .result)) (c .before .before .before .before .next-line .result) (c .before .before .before .before .next-line .ensures .0) (c .before .before .before .line-end2 .ensures)))
+    (λ c. omega (arith, end-inside 10 (now (c .before .before .before .before .before .before .front .result)) (c .before .before .before .before .next-line .result) (c .before .before .before .before .next-line .ensures .0) (c .before .before .before .line-end2 .ensures)))
+    (λ c. omega (arith, end-inside 10 (now (c .before .before .before .before .before .before .front .result)) (c .before .before .before .before .next-line .result) (c .before .before .before .before .next-line .ensures .0) (c .before .before .before .line-end2 .ensures)))
+    (λ c. omega (arith, end-inside 10 (now (c .before .before .before .before .before .before .before .front .result)) (c .before .before .before .next-line2 .result) (c .before .before .before .next-line2 .ensures .0) (c .before .before .line-end3 .ensures)))
+    (λ c. omega (arith, end-inside 10 (now (c .before .before .before .before .before .before .before .front .result)) (c .before .before .before .next-line2 .result) (c .before .before .before .next-line2 .ensures .0) (c .before .before .line-end3 .ensures)))
+    (λ c. omega (arith, end-inside 10 (now (c .before .before .before .before .before .before .before .front .result)) (c .before .before .before .next-line2 .result) (c .before .before .before .next-line2 .ensures .0) (c .before .before .line-end3 .ensures)))
     (λ c κs. search needs)
     (λ c. search needs)
     returns)

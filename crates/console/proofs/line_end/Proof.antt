@@ -1,11 +1,11 @@
 -- `line_end` meets its contract: up to the next byte 10 of what is left. Assumes nothing.
 use borrow.Author.Needs.{needs}
-use Rattle.console.proofs.Reading.{end-is}
+use Rattle.lent.proofs.Pieces.{scan-end}
 use Rattle.console.proofs.line_end.Statement.{statement}
 use Rattle.console.proofs.line_end.Tie as tie
 
 returns : tie.Need-returns
-returns c = end-is _ _ (c .before .before .pre) (c .next-mark .ensures)
+returns c = scan-end 10 _ _ (c .next-mark .ensures)
 
 pub line-end-spec : {M : Type 1} → statement M
 line-end-spec = tie.close (tie.spec (λ c κs. search needs) returns)

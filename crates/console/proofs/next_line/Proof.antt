@@ -1,6 +1,6 @@
 -- `next_line` meets its contract: behind a line end, or at the end of the text. Assumes nothing.
 use borrow.Author.Needs.{needs}
-use Rattle.console.proofs.Reading.{none-behind}
+use Rattle.lent.proofs.Pieces.{none-behind}
 use Rattle.console.proofs.next_line.Statement.{statement}
 use Rattle.console.proofs.next_line.Tie as tie
 
