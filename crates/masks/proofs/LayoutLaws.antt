@@ -4,7 +4,6 @@ use mathlib.Core.Bool.{Bool, true, false}
 use mathlib.Core.List.{[], _++_}
 use mathlib.Core.Option.{some}
 use Prim.Native.Nat.{ℕ, _+_, _-_, _≤_, _<_}
-use native.Mathlib.Nat.{zero-add}
 use native.Mathlib.Omega.{arith}
 use lib.ListN.{length, drop, replicate, length-append, length-replicate}
 use borrow.Author.Tests.{le-leb, lt-leb}
@@ -16,7 +15,7 @@ use Rattle.paper.specs.Masks.{padded, laid-out, blank-text}
 use Rattle.codes.specs.declared.Fill.{Fill}
 use Rattle.codes.specs.Meaning.{fill-of}
 use Rattle.lent.specs.Over.{over}
-use Rattle.lent.proofs.Laws.{over-over, over-front}
+use Rattle.lent.proofs.Laws.{over-front, over-behind}
 use Rattle.masks.specs.Bounds.{field-width}
 
 -- a call's answer and what its buffer holds afterwards, from what the definition gives
@@ -32,12 +31,6 @@ gives r bs d after n e l h = rw e (ap Given.Length l, h)
 pub same-answer : (d : Bytes) {r s : Res Bytes} {answer : Given} {after : Bytes} → r ≡ s → (answer ≡ given-of r) × (after ≡ written d r)
     → (answer ≡ given-of s) × (after ≡ written d s)
 same-answer d e h = (h .0 ∙ ap given-of e, h .1 ∙ ap (written d) e)
-
--- bytes behind bytes, from the front on
-laid-both : (d s t : Bytes) (n : ℕ) → n ≡ length s → length s + length t ≤ length d
-    → over (over d 0 s) n t ≡ s ++ t ++ drop (length (s ++ t)) d
-laid-both d s t n e room =
-    ap (λ (k : ℕ). over (over d 0 s) k t) (e ∙ sym (zero-add (length s))) ∙ over-over d 0 s t (omega arith) ∙ over-front d (s ++ t)
 
 -- "text wider than its mask"
 too-wide : (left : Bool) (byte width : ℕ) (text : Bytes) → width < length text → laid-out left (some (byte, width)) text ≡ refused 14
@@ -55,7 +48,7 @@ module _ (left : Bool) (byte width : ℕ) (text d : Bytes) where
       → (Given.Refused 14 ≡ given-of (laid-out left (some (byte, width)) text)) × (d ≡ written d (laid-out left (some (byte, width)) text))
   wider h = refuses (laid-out left (some (byte, width)) text) 14 d (too-wide left byte width text h)
 
-  module _ (after : Bytes) (fits : length text ≤ width) (room : width ≤ length d) where
+  module _ (after : Bytes) (fits : length text ≤ width) where
     spread : length text + length (replicate (width - length text) byte) ≡ width
     spread = omega (arith, length-replicate (width - length text) byte)
 
@@ -66,7 +59,7 @@ module _ (left : Bool) (byte width : ℕ) (text d : Bytes) where
         gives (laid-out left (some (byte, width)) text) (text ++ fill) d after width
         (rw e (fitting true byte width text fits))
         (omega (arith, length-append text fill, spread))
-        (h ∙ laid-both d text fill (length text) refl (omega (arith, spread)))
+        (h ∙ over-behind d text fill (length text) refl)
 
     pub right-answer : left ≡ false → after ≡ over (over d 0 (replicate (width - length text) byte)) (width - length text) text
         → (Given.Length width ≡ given-of (laid-out left (some (byte, width)) text)) × (after ≡ written d (laid-out left (some (byte, width)) text))
@@ -75,7 +68,7 @@ module _ (left : Bool) (byte width : ℕ) (text d : Bytes) where
         gives (laid-out left (some (byte, width)) text) (fill ++ text) d after width
         (rw e (fitting false byte width text fits))
         (omega (arith, length-append fill text, spread))
-        (h ∙ laid-both d fill text (width - length text) (sym (length-replicate (width - length text) byte)) (omega (arith, spread)))
+        (h ∙ over-behind d fill text (width - length text) (sym (length-replicate (width - length text) byte)))
 
 -- a field's width is the width of what was matched
 pub matched-width : (filled : Fill) (byte width n : ℕ) → filled ≡ Fill.Field byte width → field-width (fill-of filled) ≤ n → width ≤ n

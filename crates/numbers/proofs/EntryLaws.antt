@@ -7,7 +7,7 @@ use native.Mathlib.Nat.{not-suc-le-zero}
 use native.Mathlib.Omega.{arith}
 use lib.Dec.{leb}
 use lib.ListN.{length, take, drop, set, length-append, length-take, length-drop, drop-of-length-le}
-use lib.Seq.{take-length, take-all, drop-length, drop-drop, take-append-seam, drop-append-add}
+use lib.Seq.{take-length, take-all, drop-length}
 use borrow.Author.Tests.{le-leb, lt-leb, leb-true, leb-false}
 use Rattle.paper.specs.Bytes.{Bytes, if_then_else_}
 use Rattle.paper.specs.Sizes.{entry-most}
@@ -18,7 +18,7 @@ use Rattle.paper.specs.Numbers.{number, number-text, compared, holds, concatena
 use Rattle.paper.specs.declared.Given.{Given}
 use Rattle.paper.proofs.Numerals.{length-text}
 use Rattle.lent.specs.Over.{over}
-use Rattle.lent.proofs.Laws.{over-is, over-front}
+use Rattle.lent.proofs.Laws.{over-front, over-behind}
 use Rattle.codes.specs.declared.Relation.{Relation}
 use Rattle.codes.specs.declared.Arithmetic.{Arithmetic}
 use Rattle.codes.specs.declared.Operator.{Operator}
@@ -94,11 +94,6 @@ module _ (r : Relation) (s t d : Bytes) where
 
 -- "`:` puts top after second."
 module _ (s t d : Bytes) where
-  joined : (e f : Bytes) → e ≡ over d 0 s → f ≡ over e (length s) t → f ≡ (s ++ t) ++ drop (length (s ++ t)) d
-  joined e f h k =
-      let put : e ≡ s ++ drop (length s) d = h ∙ over-front d s in
-      k ∙ over-is e (length s) t ∙ rw (put, take-append-seam, drop-append-add, drop-drop, length-append)
-
   pub too-long : entry-most < length s + length t → Answered (binary-gives concatenate s t) d d (Given.Refused 9)
   unfolding binary-gives
   too-long l = long-entry (given (s ++ t)) d (s ++ t) refl (rw length-append l)
@@ -107,7 +102,7 @@ module _ (s t d : Bytes) where
       → e ≡ over d 0 s → f ≡ over e (length s) t
       → Answered (binary-gives concatenate s t) d f (Given.Length n)
   unfolding binary-gives
-  put-after n e f l m h k = given-entry (given (s ++ t)) d (s ++ t) f n refl (rw length-append l) (m ∙ sym (length-append s t)) (joined e f h k)
+  put-after n e f l m h k = given-entry (given (s ++ t)) d (s ++ t) f n refl (rw length-append l) (m ∙ sym (length-append s t)) (k ∙ ap (λ (b : Bytes). over b (length s) t) h ∙ over-behind d s t (length s) refl)
 
 -- a place past the end, and a count past it, count as the end
 drop-least : (m : ℕ) (s : Bytes) → drop (min m (length s)) s ≡ drop m s

@@ -21,7 +21,7 @@ returns-2 c =
     let tests = copies .before .before in
     let start = tests .before .before .before .before in
     let a = start .args in
-    left-answer (a .left) (a .byte) (a .width) (a .text .now) (a .out .now) (fills .fill .last .0) (tests .before .if1 .left) (start .pre) (tests .if2 .taken)
+    left-answer (a .left) (a .byte) (a .width) (a .text .now) (a .out .now) (fills .fill .last .0) (tests .before .if1 .left) (tests .if2 .taken)
     (fills .fill .ensures
     ∙ ap (λ (b : Bytes). over b (length (a .text .now)) (replicate (a .width - length (a .text .now)) (a .byte))) (copies .copy-in .ensures))
 
@@ -32,7 +32,7 @@ returns-3 c =
     let tests = fills .before .before in
     let start = tests .before .before .before .before in
     let a = start .args in
-    right-answer (a .left) (a .byte) (a .width) (a .text .now) (a .out .now) (copies .copy-in2 .last .1 .0) (tests .before .if1 .left) (start .pre) (tests .if2 .left)
+    right-answer (a .left) (a .byte) (a .width) (a .text .now) (a .out .now) (copies .copy-in2 .last .1 .0) (tests .before .if1 .left) (tests .if2 .left)
     (copies .copy-in2 .ensures ∙ ap (λ (b : Bytes). over b (a .width - length (a .text .now)) (a .text .now)) (fills .fill2 .ensures))
 
 pub in-field-spec : {M : Type 1} → statement M
