@@ -17,7 +17,7 @@ use Rattle.paper.specs.Grammar.{all-read}
 use Rattle.paper.specs.Converting.{Outcome, fitted, finished, carried-out, within-budget, ready, convert, output-after}
 use Rattle.paper.specs.Program.{Address, program-budget, line, address-form, printed, answered, program}
 use Rattle.paper.proofs.Budget.{steps-within-budget}
-use Rattle.paper.proofs.Numbered.{converting-numbered}
+use Rattle.paper.proofs.Numbered.{converting-told}
 use Rattle.lent.specs.Over.{over}
 use Rattle.lent.proofs.Laws.{length-over}
 use Rattle.convert.specs.Gather.{converted-of}
@@ -69,7 +69,7 @@ module _ (item string : Bytes) (a v s : ℕ) {room scratch : ℕ} {r : Converted
 
   pub refusal-short : r .number ≤ number-most
   unfolding converted-of
-  refusal-short = omega (arith, ap (λ (x : Converted). x .number) e, converting-numbered item string a v s program-budget room scratch)
+  refusal-short = omega (arith, ap (λ (x : Converted). x .number) e, converting-told item string a v s program-budget room scratch)
 
   pub steps-short : r .steps ≤ number-most
   unfolding converted-of

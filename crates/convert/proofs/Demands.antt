@@ -5,14 +5,14 @@ use lib.ListN.{length}
 use mathlib.Core.Logic.{_≢_}
 use Rattle.paper.specs.Bytes.{Bytes}
 use Rattle.paper.specs.Sizes.{entry-most}
-use Rattle.paper.specs.Refusals.{over-budget, stack-fault}
+use Rattle.paper.specs.Refusals.{refused, refusal-of, over-budget, stack-fault}
 use Rattle.paper.specs.Checking.{check, report}
 use Rattle.paper.specs.Converting.{elements, convert, convert-freely, ceiling}
 use Rattle.paper.proofs.Predicates.{All}
 use Rattle.paper.proofs.Budget.{converting-within-budget, converting-over-budget}
 use Rattle.paper.proofs.Ceiling.{steps-within-ceiling}
 use Rattle.paper.proofs.Stack.{SafeCode, checked-codes-are-safe}
-use Rattle.paper.proofs.Numbered.{no-stack-fault as converting-has-no-stack-fault}
+use Rattle.paper.proofs.Numbered.{converting-numbered, told-refused, no-stack-fault as converting-has-no-stack-fault}
 use Rattle.convert.specs.Gather.{converted-of}
 use Rattle.convert.specs.Running.{codes-in}
 use Rattle.convert.specs.declared.Converted.{Converted}
@@ -47,4 +47,10 @@ module _ (item string : Bytes) (a v s budget room scratch : ℕ) (r : Converted)
   unfolding converted-of
   no-stack-fault e f =
       converting-has-no-stack-fault item string a v s budget room scratch (codes-in string) (accepts string e)
-      (sym (ap (λ (x : Converted). x .number) answers) ∙ f)
+      (told-refused (convert item string a v s budget room scratch .answer) 6 (sym (ap (λ (x : Converted). x .number) answers) ∙ f))
+
+  -- of a refusal the call tells a number of the table, and so 0 of an answer alone
+  pub refusal-told : (n : ℕ) → convert item string a v s budget room scratch .answer ≡ refused n → (r .number ≡ n) × (1 ≤ n) × (n ≤ 16)
+  unfolding converted-of
+  refusal-told n e =
+      (ap (λ (x : Converted). x .number) answers ∙ ap refusal-of e, converting-numbered item string a v s budget room scratch n e .0, converting-numbered item string a v s budget room scratch n e .1)

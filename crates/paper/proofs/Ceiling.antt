@@ -191,7 +191,7 @@ unfolding carried-out finished unbudgeted run ceiling report
 carried-within item string a v s room refuses = omega arith
 carried-within item string a v s room (holds {a = cs} e) = rw e (run-within-ceiling entry-most item cs (elements item a v s))
 
--- "The count is never above a ceiling worked out beforehand": from the numbers A and B that checking the string gives.
+-- The count is never above a ceiling worked out beforehand: from the numbers A and B that checking the string gives.
 pub count-within-ceiling : (item string : Bytes) (a v s room scratch : ℕ)
     → convert-freely item string a v s room scratch .steps
     ≤ ceiling (report (check string) .loads) (report (check string) .others) (length item) (length (elements item a v s))

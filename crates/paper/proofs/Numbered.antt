@@ -2,9 +2,9 @@
 -- check it is never 7. A law for each way of going on, then one for each definition that may refuse and matches on something; the rest is
 -- unfolded. Assumes nothing.
 use Prim.Native.Nat.{ℕ, suc, _+_, _-_, _≤_}
-use mathlib.Core.Path.{_≡_, refl, subst}
+use mathlib.Core.Path.{_≡_, refl, ap, subst}
 use mathlib.Core.Bool.{Bool, true, false, not, _&&_}
-use mathlib.Core.Logic.{_⊎_, inl, inr, ⊎-elim, _≢_}
+use mathlib.Core.Logic.{_≢_}
 use mathlib.Core.List.{List, [], _∷_}
 use mathlib.Core.Option.{Option, none, some}
 use lib.Dec.{T, leb, eqb}
@@ -26,9 +26,9 @@ use Rattle.paper.specs.Converting.{Element, elements-run, Outcome, withi
 use Rattle.paper.proofs.Predicates.{Holds, holds, refuses, holds-then, holds-next, All, none-of, and-all}
 use Rattle.paper.proofs.Stack.{Room, Safe, answers, refuses-itself, goes-on, SafeCode, checked-codes-are-safe}
 
--- the numbers of the table
+-- the numbers of the table that converting may give: all but 17, which is replacing's
 abbrev table : ℕ → Bool
-table n = within 1 17 n
+table n = within 1 16 n
 
 -- the numbers that a run's own steps refuse with
 abbrev own : ℕ → Bool
@@ -277,10 +277,9 @@ ready-safe item string a v s scratch =
     holds-next (lawful-place item a v s)
     (λ u e. holds-then (codes-safe string (check string) refl) (λ cs safes. holds-next (refuse short-scratch unless leb scratch-least scratch) (λ w f. holds safes)))
 
--- of an answer the number is 0
-number-told : {A : Type 0} {p : ℕ → Bool} {r : Res A} → Numbered p r → (refusal-of r ≡ 0) ⊎ T (p (refusal-of r))
-number-told answered = inl refl
-number-told (numbered h) = inr h
+number-told : {A : Type 0} {p : ℕ → Bool} {r : Res A} → Numbered p r → (n : ℕ) → r ≡ refused n → T (p n)
+number-told answered n e = let z : _≡_ {A = ℕ} 0 1 = cc in absurd (omega arith)
+number-told {p = p} (numbered h) n e = subst (λ (m : ℕ). T (p m)) (ap refusal-of e) h
 
 bounds : (low high n : ℕ) (t u : Bool) → leb low n ≡ t → leb n high ≡ u → T (t && u) → (low ≤ n) × (n ≤ high)
 bounds low high n true true e f h = (leb-true low n e, leb-true n high f)
@@ -290,16 +289,31 @@ bounds low high n false u e f h = absurd h
 own-in-table : (n : ℕ) → T (own n) → T (table n)
 own-in-table n h =
     let w = bounds 9 14 n (leb 9 n) (leb n 14) refl refl h in
-    rw (le-leb 1 n (omega arith), le-leb n 17 (omega arith)) tt
+    rw (le-leb 1 n (omega arith), le-leb n 16 (omega arith)) tt
 
--- Every refusal of converting carries a number of the paper's table; an answer carries 0.
-pub converting-numbered : (item string : Bytes) (a v s budget room scratch : ℕ)
-    → refusal-of (convert item string a v s budget room scratch .answer) ≤ 17
+-- Every refusal of converting carries a number of the paper's table; so none is taken for an answer, whose number is 0.
+pub converting-numbered : (item string : Bytes) (a v s budget room scratch : ℕ) (n : ℕ)
+    → convert item string a v s budget room scratch .answer ≡ refused n → (1 ≤ n) × (n ≤ 16)
 unfolding convert
-converting-numbered item string a v s budget room scratch =
-    ⊎-elim (λ e. omega arith) (λ h. bounds 1 17 _ _ _ refl refl h .1)
+converting-numbered item string a v s budget room scratch n e =
+    bounds 1 16 n _ _ refl refl
     (number-told
-    (carried-numbered own-in-table tt tt item a v s budget room (ready-numbered item string a v s scratch) (ready-safe item string a v s scratch)))
+    (carried-numbered own-in-table tt tt item a v s budget room (ready-numbered item string a v s scratch) (ready-safe item string a v s scratch))
+    n
+    e)
+
+-- the number that is told of an outcome, 0 for an answer
+pub converting-told : (item string : Bytes) (a v s budget room scratch : ℕ) → refusal-of (convert item string a v s budget room scratch .answer) ≤ 16
+converting-told item string a v s budget room scratch = go (convert item string a v s budget room scratch .answer) refl
+  where
+    go : (r : Res Bytes) → convert item string a v s budget room scratch .answer ≡ r → refusal-of r ≤ 16
+    go (given bs) e = omega arith
+    go (refused n) e = converting-numbered item string a v s budget room scratch n e .1
+
+-- a number above 0 is told of a refusal alone
+pub told-refused : {A : Type 0} (r : Res A) (n : ℕ) → refusal-of r ≡ suc n → r ≡ refused (suc n)
+told-refused (given a) n e = absurd (omega arith)
+told-refused (refused m) n e = ap refused e
 
 -- any number but 7
 abbrev other-than-seven : ℕ → Bool
@@ -313,11 +327,12 @@ accepted-ready : (item string : Bytes) (a v s scratch : ℕ) (cs : List Code) �
 unfolding ready lawful-place lawful-record lawful-id lawful-address lawful-code checked-codes
 accepted-ready item string a v s scratch cs e = rw e (search tests depth 10)
 
--- "A checked code never finds too few or too many entries on the stack": after an accepted check converting never refuses with 7.
+-- A checked code never finds too few or too many entries on the stack: after an accepted check converting never refuses with 7.
 pub no-stack-fault : (item string : Bytes) (a v s budget room scratch : ℕ) (cs : List Code) → check string ≡ accepted cs
-    → refusal-of (convert item string a v s budget room scratch .answer) ≢ stack-fault
+    → convert item string a v s budget room scratch .answer ≢ refused stack-fault
 unfolding convert
 no-stack-fault item string a v s budget room scratch cs e f =
-    ⊎-elim (λ z. omega arith) (λ h. rw f at h)
-    (number-told
-    (carried-numbered own-not-seven tt tt item a v s budget room (accepted-ready item string a v s scratch cs e) (ready-safe item string a v s scratch)))
+    number-told
+    (carried-numbered own-not-seven tt tt item a v s budget room (accepted-ready item string a v s scratch cs e) (ready-safe item string a v s scratch))
+    stack-fault
+    f

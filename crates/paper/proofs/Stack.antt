@@ -179,6 +179,6 @@ sounds-safe : (most : ℕ) {cs : List Code} → All Sound cs → All (SafeCode m
 sounds-safe most none-of = none-of
 sounds-safe most (and-all sound sounds) = and-all (sound-safe most sound) (sounds-safe most sounds)
 
--- "A checked code never finds too few or too many entries on the stack."
+-- A checked code never finds too few or too many entries on the stack.
 pub checked-codes-are-safe : (most : ℕ) (string : Bytes) (cs : List Code) → check string ≡ accepted cs → All (SafeCode most) cs
 checked-codes-are-safe most string cs e = sounds-safe most (fine-codes cs (fine-check string) e)
