@@ -1,12 +1,16 @@
 // Checks a table of code strings, a line of standard input each.
 // Writes refusal, code number, A and B, parted by single blanks, and after them the string itself.
 // The table has every form of document 01's grammar once, near misses of each, and its examples on both sides.
-use cases::say;
 use grammar::Verdict;
 use libc::STDIN_FILENO;
+use libc::STDOUT_FILENO;
+
+fn say(text: &[u8]) {
+    io::write_all(STDOUT_FILENO, text);
+}
 
 fn write_number(n: u64) {
-    cases::say_number(n);
+    io::print_decimal(STDOUT_FILENO, n);
     say(b" ");
 }
 

@@ -4,9 +4,6 @@
 use cases::field;
 use cases::first_byte;
 use cases::long;
-use cases::quote;
-use cases::say;
-use cases::say_number;
 use cases::spelled;
 use codes::Elm;
 use codes::Operator;
@@ -14,12 +11,34 @@ use dates::TypedDay;
 use grammar::Head;
 use grammar::ReadElm;
 use libc::STDIN_FILENO;
+use libc::STDOUT_FILENO;
 use paper::Given;
 use paper::Limit;
 ghost use Prim.Native.Nat.{_≤_};
 ghost use lib.ListN.{length};
 ghost use Rattle.paper.specs.Sizes.{entry-most};
 ghost use Rattle.machine.specs.Bounds.{Operator-within};
+
+fn say(text: &[u8]) {
+    io::write_all(STDOUT_FILENO, text);
+}
+
+fn say_number(n: u64) {
+    io::print_decimal(STDOUT_FILENO, n);
+}
+
+// The front of a text, with its marks drawn.
+fn show_text(text: &[u8]) {
+    let mut line = [0u8; cases::SHOWN];
+    let n = cases::draw(text, &mut line);
+    say(&line[..n]);
+}
+
+fn quote(text: &[u8]) {
+    say(b"\"");
+    show_text(text);
+    say(b"\"");
+}
 
 fn say_refused(n: u64) {
     say(b" is refused: ");
@@ -42,7 +61,7 @@ fn say_given(given: Given, out: &[u8], counted: bool) {
     match given {
         Given::Length(n) => {
             say(b" gives ");
-            say_bytes(cases::front(out, n), counted);
+            say_bytes(lent::front(out, n), counted);
             say(b"\n");
         }
         Given::Refused(n) => say_refused(n),

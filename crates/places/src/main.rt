@@ -4,16 +4,34 @@
 use cases::field;
 use cases::first_byte;
 use cases::number;
-use cases::quote;
-use cases::say;
-use cases::say_number;
-use cases::show;
 use cases::spelled;
 use libc::STDIN_FILENO;
+use libc::STDOUT_FILENO;
 use paper::Given;
 use paper::Limit;
 use records::Found;
 ghost use Prim.Native.Nat.{_≤_};
+
+fn say(text: &[u8]) {
+    io::write_all(STDOUT_FILENO, text);
+}
+
+fn say_number(n: u64) {
+    io::print_decimal(STDOUT_FILENO, n);
+}
+
+// The front of a text, with its marks drawn.
+fn show_text(text: &[u8]) {
+    let mut line = [0u8; cases::SHOWN];
+    let n = cases::draw(text, &mut line);
+    say(&line[..n]);
+}
+
+fn quote(text: &[u8]) {
+    say(b"\"");
+    show_text(text);
+    say(b"\"");
+}
 
 struct Address {
     a: u64,
@@ -34,7 +52,7 @@ fn typed_address(line: &[u8]) -> Address {
 fn say_case(line: &[u8]) {
     say(field(line, 0, b'|'));
     say(b" ");
-    show(field(line, 2, b'|'));
+    show_text(field(line, 2, b'|'));
     say(b" (");
     say(field(line, 1, b'|'));
     say(b")");
@@ -105,7 +123,7 @@ fn replace(line: &[u8], item: &[u8], new: &[u8], out: &mut [u8]) {
     if title.len() == 0 {
         say_case(line);
         say(b" := ");
-        show(field(line, 3, b'|'));
+        show_text(field(line, 3, b'|'));
         say_given(given);
         say_last(out);
     } else {

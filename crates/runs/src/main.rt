@@ -2,14 +2,12 @@
 // Writes the case, its answer or refusal, its steps, and what it leaves in the buffers, with the marks drawn as in the paper.
 // That the answers are right is proved of `convert`; this shows them, and what it writes is compared with a stored text.
 use cases::field;
-use cases::front;
 use cases::number;
 use cases::place;
-use cases::say;
-use cases::say_number;
 use cases::spelled;
 use convert::Converted;
 use libc::STDIN_FILENO;
+use libc::STDOUT_FILENO;
 use paper::Limit;
 ghost use Prim.Native.Nat.{_≤_};
 
@@ -19,6 +17,21 @@ const BUDGET: u64 = 1_000_000;
 const OUTPUT: u64 = 1_100;
 
 const SCRATCH: u64 = 20_480;
+
+fn say(text: &[u8]) {
+    io::write_all(STDOUT_FILENO, text);
+}
+
+fn say_number(n: u64) {
+    io::print_decimal(STDOUT_FILENO, n);
+}
+
+// The front of a text, with its marks drawn.
+fn show_text(text: &[u8]) {
+    let mut line = [0u8; cases::SHOWN];
+    let n = cases::draw(text, &mut line);
+    say(&line[..n]);
+}
 
 // Whether all bytes from `from` on are zeros.
 fn zeros(text: &[u8], from: usize) -> bool {
@@ -47,7 +60,7 @@ fn quote(text: &[u8]) {
         return;
     }
     say(b"`");
-    cases::show(text);
+    show_text(text);
     say(b"`");
 }
 
@@ -95,7 +108,7 @@ fn say_case(line: &[u8]) {
 fn say_converted(given: Converted, out: &[u8]) {
     if given.number == 0 {
         say(b": ");
-        quote(front(out, given.length));
+        quote(lent::front(out, given.length));
     } else {
         say(b": refusal ");
         say_number(given.number);

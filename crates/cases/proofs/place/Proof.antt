@@ -1,19 +1,15 @@
--- `cases::place` meets its contract: a scan stays within what it scans. Assumes nothing.
-use mathlib.Core.Path.{ap}
+-- `cases::place` meets its contract: where a scan to the end of the text stops, and that it stays within the text. Assumes nothing.
 use native.Mathlib.Omega.{arith}
-use lib.ListN.{length, length-drop}
 use denote.Ref.{now}
-use Rattle.lent.specs.Scan.{range}
-use Rattle.lent.proofs.Scans.{range-rest, length-upto}
+use Rattle.lent.proofs.Pieces.{scan-end, end-inside}
 use Rattle.cases.proofs.place.Statement.{statement}
 use Rattle.cases.proofs.place.Tie as tie
 
 returns : tie.Need-returns
 returns c =
     let a = c .before .before .args in
-    let text = now (a .text) in
-    let inside = length-upto (a .b) (a .b) (range text (a .from) (length text)) in
-    omega (arith, c .first-within .ensures, inside, ap length (range-rest text (a .from)), length-drop (a .from) text)
+    let e = scan-end (a .b) (now (a .text)) (a .from) (c .first-within .ensures) in
+    (end-inside (a .b) (now (a .text)) (a .from) (c .before .before .pre) e, e)
 
 pub place-spec : {M : Type 1} → statement M
 place-spec = tie.close (tie.spec (λ c κs. (omega arith, omega arith)) returns)

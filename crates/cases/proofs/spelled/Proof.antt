@@ -1,30 +1,46 @@
--- `cases::spelled` is safe and ends, and counts bytes of its output. Assumes nothing.
+-- `cases::spelled` meets its contract: piece by piece, as far as there is room. Assumes nothing.
 use Prim.Native.Nat.{_-_, _≤_}
-use mathlib.Core.Path.{_≡_, sym}
+use mathlib.Core.Path.{_≡_, refl, sym, _∙_}
 use native.Mathlib.Omega.{arith}
 use borrow.Author.Needs.{needs}
-use lib.ListN.{length}
+use denote.Ref.{now}
+use lib.ListN.{length, drop}
 use lib.Seq.{length-take-le}
+use Rattle.cases.specs.Tables.{laid, behind, spelled}
+use Rattle.cases.proofs.Spelling.{one-piece, all-pieces}
 use Rattle.cases.proofs.spelled.Statement.{statement}
 use Rattle.cases.proofs.spelled.Tie as tie
 
 abbrev Inv-loop : tie.InvT-loop
-Inv-loop text marks out₀ n₀ at₀ out n at = (n ≤ length out) × (length out ≡ length out₀) × (at ≤ length text)
+Inv-loop text marks out₀ n₀ at₀ out n at =
+    (n ≤ length out)
+    × (length out ≡ length out₀)
+    × (at ≤ length text)
+    × (behind out₀ 0 (spelled marks text) ≡ behind out n (spelled marks (drop at text)))
+    × (laid out₀ 0 (spelled marks text) ≡ laid out n (spelled marks (drop at text)))
 
 abbrev μ-loop : tie.MeasureT-loop
 μ-loop text marks out₀ n₀ at₀ out n at = length text - at
 
-returns : tie.Need-returns Inv-loop μ-loop
-returns c = (omega arith, sym (length-take-le (c .before .loop .n) (c .before .loop .out) (omega arith)))
-
-loop-less : tie.Need-loop-less Inv-loop μ-loop
-loop-less c = omega (arith, c .before .before .before .before .before .next-piece .ensures)
-
 loop-again : tie.Need-loop-again Inv-loop μ-loop
 loop-again c =
-    let piece = c .before .before .before .before .before .next-piece .ensures in
-    let laid = c .before .before .lay .ensures in
-    (omega arith, omega arith, omega arith)
+    let a = c .before .before .before .before .before .before .before .before .before .before .args in
+    let l = c .before .before .before .before .before .before .before .loop in
+    let r = c .before .before .before .before .before .next-piece in
+    let m = c .before .before .before .meant in
+    let put = c .before .before .lay in
+    let more =
+    one-piece (a .marks) (now (a .text)) (now (a .out)) (l .out) (l .n) (l .at) (l .inv .0) (l .inv .3) (l .inv .4)
+    (r .result .next) (r .result .count) (r .result .byte) (r .ensures .1) (m .result) (put .result) (put .last .0) (m .ensures) (put .ensures .0) (put .ensures .1) in
+    (more .0, more .1 ∙ l .inv .1, r .ensures .0 .1, more .2, more .3)
+
+returns : tie.Need-returns Inv-loop μ-loop
+returns c =
+    let a = c .before .before .before .before .args in
+    let l = c .before .loop in (
+      (l .inv .0, sym (length-take-le (l .n) (l .out) (l .inv .0))),
+      all-pieces (a .marks) (now (a .text)) (now (a .out)) (l .out) (l .n) (l .at) (l .inv .0) (l .inv .3) (l .inv .4) (c .loop-test .left),
+    )
 
 pub spelled-spec : {M : Type 1} → statement M
 spelled-spec =
@@ -32,11 +48,11 @@ spelled-spec =
     (tie.spec
     Inv-loop
     μ-loop
-    (λ c. search needs)
+    (λ c. (omega arith, refl, omega arith, refl, refl))
     (λ c κs. omega arith)
     (λ c κs. search needs)
     (λ c κs. omega arith)
-    loop-less
+    (λ c. omega (arith, c .before .before .before .before .before .next-piece .ensures))
     loop-again
     (λ c. omega arith)
     returns)

@@ -1,0 +1,5 @@
+pub mod Fields
+pub mod Digits
+pub mod Laying
+pub mod Spelling
+pub mod Settled

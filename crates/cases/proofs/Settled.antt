@@ -1,0 +1,31 @@
+-- Any two outcomes that a contract of this crate allows are equal: an answer, the bytes of a part, and what a lent buffer holds afterwards.
+use mathlib.Core.Path.{_≡_, sym, _∙_}
+use contract.Lifetimes.{Lfts}
+use Rattle.cases.proofs.draw.Reads as draw
+use Rattle.cases.proofs.long.Reads as long
+use Rattle.cases.proofs.first_byte.Reads as first-byte
+use Rattle.cases.proofs.place.Reads as place
+use Rattle.cases.proofs.field.Reads as field
+use Rattle.cases.proofs.number.Reads as number
+use Rattle.cases.proofs.spelled.Reads as spelled
+
+draw-settled : (κs : Lfts 2) → (a : _) (r r′ : _) (e e′ : _) → draw.Post κs a r e → draw.Post κs a r′ e′ → (r ≡ r′) × (e .1 .0 .now ≡ e′ .1 .0 .now)
+draw-settled κs a r r′ e e′ p q = (p .1 .0 ∙ sym (q .1 .0), p .1 .1 ∙ sym (q .1 .1))
+
+long-settled : (κs : Lfts 1) → (a : _) (r r′ : _) (e e′ : _) → long.Post κs a r e → long.Post κs a r′ e′ → r ≡ r′
+long-settled κs a r r′ e e′ p q = p ∙ sym q
+
+first-byte-settled : (κs : Lfts 1) → (a : _) (r r′ : _) (e e′ : _) → first-byte.Post κs a r e → first-byte.Post κs a r′ e′ → r ≡ r′
+first-byte-settled κs a r r′ e e′ p q = p ∙ sym q
+
+place-settled : (κs : Lfts 1) → (a : _) (r r′ : _) (e e′ : _) → place.Post κs a r e → place.Post κs a r′ e′ → r ≡ r′
+place-settled κs a r r′ e e′ p q = p .1 ∙ sym (q .1)
+
+field-settled : (κs : Lfts 1) → (a : _) (r r′ : _) (e e′ : _) → field.Post κs a r e → field.Post κs a r′ e′ → r .now ≡ r′ .now
+field-settled κs a r r′ e e′ p q = p ∙ sym q
+
+number-settled : (κs : Lfts 1) → (a : _) (r r′ : _) (e e′ : _) → number.Post κs a r e → number.Post κs a r′ e′ → r ≡ r′
+number-settled κs a r r′ e e′ p q = p ∙ sym q
+
+spelled-settled : (κs : Lfts 2) → (a : _) (r r′ : _) (e e′ : _) → spelled.Post κs a r e → spelled.Post κs a r′ e′ → (r ≡ r′) × (e .1 .1 .0 .now ≡ e′ .1 .1 .0 .now)
+spelled-settled κs a r r′ e e′ p q = (p .1 .0 ∙ sym (q .1 .0), p .1 .1 ∙ sym (q .1 .1))
