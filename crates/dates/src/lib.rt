@@ -5,7 +5,6 @@ pub mod calendar;
 pub mod printing;
 pub mod typing;
 
-// Refusals 10 and 12 of document 01.
 // A date of the calendar.
 pub struct Date {
     pub year: u64,

@@ -6,8 +6,6 @@ use codes::Separator;
 use numbers::Form;
 use numbers::Number;
 use paper::Given;
-use paper::refusal::NOT_CONVERTIBLE;
-use paper::refusal::OUT_OF_RANGE;
 ghost use mathlib.Core.List.{[], _∷_, _++_};
 ghost use mathlib.Core.Path.{_≡_};
 ghost use Prim.Native.Nat.{pred, _+_, _≤_};

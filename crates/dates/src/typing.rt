@@ -4,7 +4,6 @@ use crate::Read;
 use crate::TypedDay;
 use crate::calendar;
 use codes::Separator;
-use paper::refusal::NOT_CONVERTIBLE;
 ghost use mathlib.Core.Bool.{true};
 ghost use mathlib.Core.List.{List, [], _∷_};
 ghost use mathlib.Core.Option.{some};

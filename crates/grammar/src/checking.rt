@@ -190,7 +190,7 @@ pub fn code_end(code: &[u8], from: usize) -> usize
     first_within(code, from, code.len(), Mark::VALUE, Mark::VALUE)
 }
 
-// "Bytes 251, 252, 254, 255 in a code string are 6": whether one stands there, where a scan for marks stopped.
+// "Bytes 251, 252, 254, 255 and an empty code are 6": whether such a byte stands there, where a scan for marks stopped.
 fn stray(code: &[u8], at: usize) -> bool
     ensures { λ r. ⌜ r ≡ stray (now (code .entry)) at ⌝ }
 {

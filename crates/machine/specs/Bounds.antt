@@ -34,7 +34,7 @@ pub data Operator-within : Operator → Type 0 where
   concatenate-within : Operator-within Operator.Concatenate
   relate-within : {r : Relation} → Operator-within (Operator.Relate r)
 
--- a mask as `masks` takes it; "D{n}{s}, n 0 to 4"
+-- a mask as `masks` takes it; "`D{n}{s}`, n 0 to 4"
 pub data Conversion-within : Conversion → Type 0 where
   plain-within : {p : Plain} → Conversion-within (Conversion.Plain p)
   mask-within : {m : Mask} → Bounded (mask-of m) → Conversion-within (Conversion.Mask m)

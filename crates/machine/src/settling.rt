@@ -15,7 +15,7 @@ ghost use Rattle.machine.specs.Slots.{slots, entry-at, Slotted};
 ghost use Rattle.machine.specs.Stepping.{handed, exchanging, Settles, Puts};
 
 // Bytes on top of k entries, by a step that takes so many bytes.
-pub fn settle(
+pub(crate) fn settle(
     bytes: &[u8],
     taken: u64,
     left: u64,
@@ -35,7 +35,7 @@ pub fn settle(
 }
 
 // An operand: 9 is its own refusal.
-pub fn settle_operand(
+pub(crate) fn settle_operand(
     bytes: &[u8],
     taken: u64,
     left: u64,
@@ -53,7 +53,7 @@ pub fn settle_operand(
 }
 
 // The number of a refusal; 0 for none.
-pub fn refused(answer: Given) -> u64
+pub(crate) fn refused(answer: Given) -> u64
     ensures { λ r. ⌜ r ≡ refusal-in answer ⌝ }
 {
     match answer {
@@ -63,7 +63,7 @@ pub fn refused(answer: Given) -> u64
 }
 
 // What a code or an operator gave, in front of the work buffer.
-pub fn settle_given(
+pub(crate) fn settle_given(
     answer: Given,
     taken: u64,
     left: u64,
@@ -83,7 +83,7 @@ pub fn settle_given(
 }
 
 // What a slot holds, once more on top: LPV and `P`.
-pub fn settle_copy(
+pub(crate) fn settle_copy(
     from: usize,
     taken: u64,
     left: u64,
@@ -103,7 +103,7 @@ pub fn settle_copy(
 }
 
 // `_`: takes and puts two, on top of k entries.
-pub fn settle_exchange(left: u64, scratch: &mut [u8], lens: &mut [usize], k: usize) -> Step
+pub(crate) fn settle_exchange(left: u64, scratch: &mut [u8], lens: &mut [usize], k: usize) -> Step
     requires { ⌜ Slotted (now scratch) (now lens) × (k + 1 < stack-most) ⌝ }
     ensures { λ r. ⌜ Settles left (exchanging (now (scratch .entry)) (now (lens .entry)) k) r (now (scratch .entry)) (now (lens .entry)) (now (scratch .exit)) (now (lens .exit)) ⌝ }
 {

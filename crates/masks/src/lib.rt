@@ -24,7 +24,7 @@ ghost use Rattle.masks.specs.Bounds.{Bounded, field-width};
 mod scaling;
 mod text;
 
-// The longest text: `$`, a sign, 15 digits with 4 commas, a point with 9 decimals, and a suffix of two. So 9 is never given.
+// Room for any text: `$`, a sign, 15 digits with 4 commas, a point with 9 decimals, a suffix of two, each at its most. So 9 is never given.
 const LONGEST: usize = 33;
 
 // "ML and MR: empty stays empty, other non-numeric is 12." "Checks: 12, 10, 14, 9."

@@ -21,7 +21,7 @@ unfoldable pub length-in : Given → ℕ
 length-in (Length n) = n
 length-in (Refused n) = 0
 
--- a lent work buffer after such a call: the bytes in front of what it held; on a refusal, what it held
+-- a work buffer after a function that gives a text: the text laid over its front, the rest as it was; on a refusal all as it was
 unfoldable pub written : Bytes → Res Bytes → Bytes
 written held (given bs) = bs ++ drop (length bs) held
 written held (refused n) = held

@@ -24,13 +24,14 @@ unfoldable pub bytes : String → Bytes
 bytes no-text = []
 bytes (c then s) = code c ∷ bytes s
 
--- "1 to 4 digits", "Letters are ASCII"
+-- from the one bound to the other
 abbrev pub within : ℕ → ℕ → ℕ → Bool
 within low high b = leb low b && leb b high
 
 unfoldable pub is-digit : ℕ → Bool
 is-digit b = within (ch "0") (ch "9") b
 
+-- "Letters are ASCII"
 unfoldable pub is-upper : ℕ → Bool
 is-upper b = within (ch "A") (ch "Z") b
 

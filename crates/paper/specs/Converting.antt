@@ -131,7 +131,7 @@ unfoldable pub convert-freely : Bytes → Bytes → ℕ → ℕ → ℕ → ℕ 
 convert-freely item string a v s room scratch =
     carried-out unbudgeted item a v s room (ready item string a v s scratch)
 
--- "each byte then in the lent buffers": the output and the scratch after a call
+-- the output after a call: the answer, which a refusal leaves empty, and then zeros
 unfoldable pub output-after : ℕ → Outcome → Bytes
 output-after room o = buffer room (answer-of (o .answer))
 

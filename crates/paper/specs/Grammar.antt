@@ -185,7 +185,7 @@ is-separator b =
 unfoldable pub date-after : ℕ → Reader Conversion
 date-after n = ahead is-separator (λ s. gives (Conversion.date n (some s))) (gives (Conversion.date n none))
 
--- "n absent" is 4 (001, 4.4)
+-- where n is absent it is 4 (001, 4.4)
 unfoldable pub date-code : Reader Conversion
 date-code = ahead (within (ch "0") (ch "4")) (λ b. date-after (digit-value b)) (date-after 4)
 

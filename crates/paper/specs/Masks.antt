@@ -44,11 +44,11 @@ grouped (d ∷ []) = d ∷ []
 grouped (d ∷ e ∷ ds) =
     if eqb (length (e ∷ ds) % 3) 0 then d ∷ ch "," ∷ grouped (e ∷ ds) else d ∷ grouped (e ∷ ds)
 
--- "A comma goes in at every three integer digits."
+-- "A comma goes in at every three integer digits."; "at least one digit before the point", as the decimal text of 0 has
 unfoldable pub integer-text : Bool → ℕ → Bytes
 integer-text commas n = if commas then grouped (decimal n) else decimal n
 
--- "at least one digit before the point"; "without the point" where n is 0 (001, 4.9)
+-- the point and n decimals; where n is 0 neither (001, 4.9)
 unfoldable pub point-text : ℕ → ℕ → Bytes
 point-text zero size = []
 point-text (suc n) size = ch "." ∷ digits (suc n) size

@@ -3,7 +3,7 @@ use Prim.Native.Nat.{ℕ, zero, suc, pred, _+_, _-_, _*_, _/_, _%_, _^_}
 use mathlib.Core.Bool.{Bool, true, false, not, _&&_}
 use mathlib.Core.List.{[], _∷_, _++_}
 use mathlib.Core.Option.{Option, none, some}
-use lib.ListN.{length, take, drop}
+use lib.ListN.{take, drop}
 use lib.Dec.{leb, ltb, eqb}
 use Rattle.paper.specs.Bytes.{Bytes, if_then_else_, ch, is-digit, digit-value}
 use Rattle.paper.specs.Sizes.{number-digits, number-most}

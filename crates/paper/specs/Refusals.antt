@@ -57,7 +57,7 @@ short-output = 16
 abbrev pub mark-in-element : ℕ
 mark-in-element = 17
 
--- "an answer or one numbered refusal"
+-- an answer, or one refusal by its number
 pub data Res (A : Type 0) : Type 0 where
   given : A → Res A
   refused : ℕ → Res A

@@ -1,6 +1,6 @@
 // Document 01 as definitions (specs/), the laws that speak of the definitions alone (proofs/),
 // and, in code, the mark bytes and size limits that every crate above shares.
-// Whoever believes specs/ need believe nothing else: every contract of the other crates cites it.
+// What the product answers is stated by specs/; the specs/ of the other crates only turn it into the forms that their code has.
 ghost use mathlib.Core.Path.{_≡_};
 ghost use Rattle.paper.specs.Sizes.{
   segment-mark,
