@@ -62,13 +62,11 @@ impl Both {
         same_bytes(scratches.0, scratches.1, "the scratch", call);
     }
 
-    /// Converts on both sides within `budget`, compares everything, and gives
-    /// the outcome.
-    fn convert(&mut self, call: &ConvertCall, budget: u64) -> Convert {
-        let paper = call.run_within(budget, &PAPER, &mut self.paper);
-        let proved = call.run_within(budget, &PROVED, &mut self.proved);
-        let what = format!("converting within {budget}");
-        same(&paper, &proved, &what, call);
+    /// Converts on both sides, compares everything, and gives the outcome.
+    fn convert(&mut self, call: &ConvertCall) -> Convert {
+        let paper = call.run(&PAPER, &mut self.paper);
+        let proved = call.run(&PROVED, &mut self.proved);
+        same(&paper, &proved, "converting", call);
         self.same(call);
         proved
     }
@@ -130,16 +128,17 @@ fn convert_more() {
 fn convert_share(name: &'static str, call: u64, percent: u64) {
     let mut both = Both::default();
     let coverage = cases(USUAL_CASES, name, call, percent, |rng, coverage| {
-        let call = generator::convert(rng, &mut both.paper);
-        let outcome = both.convert(&call, call.budget);
-        laws::convert(&call, call.budget, &outcome, &both.proved);
+        let mut call = generator::convert(rng, &mut both.paper);
+        let outcome = both.convert(&call);
+        laws::convert(&call, &outcome, &both.proved);
         laws::ceiling(&call, &outcome, &PROVED);
-        let answer = both.proved.output.after().to_vec();
-        for budget in laws::budgets(&outcome) {
-            let again = both.convert(&call, budget.0);
-            laws::budget(&call, budget, (&outcome, &answer), &again, &both.proved);
-        }
         coverage.convert(&call, &outcome);
+        let answer = both.proved.output.after().to_vec();
+        for (budget, enough) in laws::budgets(&outcome) {
+            call.budget = budget;
+            let again = both.convert(&call);
+            laws::budget(&call, enough, (&outcome, &answer), &again, &both.proved);
+        }
     });
     coverage.require_of_convert();
 }
@@ -194,7 +193,7 @@ fn printed(both: &mut Both, days: &[i64], code: &[u8]) -> Vec<u8> {
         output_length: paper::RECORD_LENGTH,
         scratch_length: SCRATCH_LENGTH,
     };
-    let outcome = both.convert(&call, call.budget);
+    let outcome = both.convert(&call);
     assert_eq!(outcome.refusal, 0, "{call}");
     both.proved.output.after()[..outcome.length as usize].to_vec()
 }

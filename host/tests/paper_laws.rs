@@ -71,16 +71,17 @@ fn check() {
 fn convert() {
     let mut buffers = Buffers::default();
     let coverage = cases(CASES, "convert", 4, 40, |rng, coverage| {
-        let call = generator::convert(rng, &mut buffers);
+        let mut call = generator::convert(rng, &mut buffers);
         let outcome = call.run(&PAPER, &mut buffers);
-        laws::convert(&call, call.budget, &outcome, &buffers);
+        laws::convert(&call, &outcome, &buffers);
         laws::ceiling(&call, &outcome, &PAPER);
-        let answer = buffers.output.after().to_vec();
-        for budget in laws::budgets(&outcome) {
-            let again = call.run_within(budget.0, &PAPER, &mut buffers);
-            laws::budget(&call, budget, (&outcome, &answer), &again, &buffers);
-        }
         coverage.convert(&call, &outcome);
+        let answer = buffers.output.after().to_vec();
+        for (budget, enough) in laws::budgets(&outcome) {
+            call.budget = budget;
+            let again = call.run(&PAPER, &mut buffers);
+            laws::budget(&call, enough, (&outcome, &answer), &again, &buffers);
+        }
     });
     coverage.require_of_convert();
 }

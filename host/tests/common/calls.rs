@@ -72,19 +72,10 @@ pub struct ConvertCall {
 impl ConvertCall {
     /// Carries out the call on dirty buffers; output and scratch stay in them.
     pub fn run(&self, implementation: &Implementation, buffers: &mut Buffers) -> Convert {
-        self.run_within(self.budget, implementation, buffers)
-    }
-
-    /// The same with another budget.
-    pub fn run_within(
-        &self,
-        budget: u64,
-        implementation: &Implementation,
-        buffers: &mut Buffers,
-    ) -> Convert {
         let output = buffers.output.lend(self.output_length);
         let scratch = buffers.scratch.lend(self.scratch_length);
-        (implementation.convert)(&self.record, &self.code, self.at, budget, output, scratch)
+        let (record, code) = (&self.record, &self.code);
+        (implementation.convert)(record, code, self.at, self.budget, output, scratch)
     }
 }
 

@@ -74,7 +74,7 @@ fn contains(one: Address, other: Address) -> bool {
 
 /// The output holds the answer and then zeros, scratch holds zeros, a refusal
 /// gives no answer, and the steps are within the budget.
-pub fn convert(call: &ConvertCall, budget: u64, outcome: &Convert, buffers: &Buffers) {
+pub fn convert(call: &ConvertCall, outcome: &Convert, buffers: &Buffers) {
     let behind = buffers.output.after().get(outcome.length as usize..);
     let clear = behind.is_some_and(all_zero) && all_zero(buffers.scratch.after());
     let settled = clear && (outcome.refusal == 0 || outcome.length == 0);
@@ -85,7 +85,7 @@ pub fn convert(call: &ConvertCall, budget: u64, outcome: &Convert, buffers: &Buf
         outcome,
     );
     law(
-        outcome.steps <= budget,
+        outcome.steps <= call.budget,
         "steps within the budget",
         call,
         outcome,
@@ -122,8 +122,8 @@ pub fn came_to_end(outcome: &Convert) -> bool {
     matches!(outcome.refusal, 0 | 16)
 }
 
-/// The budgets to try a completed run with again, and what must come of each:
-/// at the count the same outcome, one below it refusal 15.
+/// The budgets to try a completed run with again, and whether each is enough: at
+/// the count the outcome must be the same, one below it refusal 15.
 pub fn budgets(outcome: &Convert) -> Vec<(u64, bool)> {
     let mut budgets = Vec::new();
     if came_to_end(outcome) {
@@ -133,20 +133,20 @@ pub fn budgets(outcome: &Convert) -> Vec<(u64, bool)> {
     budgets
 }
 
-/// What a run with another budget must have given: `first` and `answer` are the
-/// outcome and the output of the completed run.
+/// What a call with another budget, enough or not, must have given: `first` and
+/// `answer` are the outcome and the output of the completed run.
 pub fn budget(
     call: &ConvertCall,
-    (budget, enough): (u64, bool),
+    enough: bool,
     (first, answer): (&Convert, &[u8]),
     outcome: &Convert,
     buffers: &Buffers,
 ) {
-    convert(call, budget, outcome, buffers);
+    convert(call, outcome, buffers);
     let right = if enough {
         outcome == first && buffers.output.after() == answer
     } else {
         outcome.refusal == 15
     };
-    law(right, &format!("the budget {budget}"), call, outcome);
+    law(right, "another budget", call, outcome);
 }
