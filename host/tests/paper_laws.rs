@@ -59,6 +59,7 @@ fn check() {
     let coverage = cases(CASES, "check", 3, 20, |rng, coverage| {
         let call = generator::check(rng);
         let outcome = call.run(&PAPER);
+        laws::check(&call, &outcome);
         coverage.refusal(outcome.refusal);
         if outcome.refusal == 0 {
             coverage.string(&call.code);
@@ -89,7 +90,9 @@ fn convert() {
 #[test]
 fn date() {
     let coverage = cases(CASES, "date", 5, 10, |rng, coverage| {
-        let outcome = generator::date(rng).run(&PAPER);
+        let call = generator::date(rng);
+        let outcome = call.run(&PAPER);
+        laws::date(&call, &outcome);
         coverage.refusal(outcome.refusal);
     });
     coverage.require("date", &[5, 6, 12], &[]);

@@ -1,12 +1,18 @@
 //! What document 01 promises of every call, whoever carries it out.
 
 use std::fmt::Display;
+use std::ops::RangeInclusive;
 
-use sundewfrill_host::outcome::{Address, Convert, Find, Implementation, Replace};
+use sundewfrill_host::outcome::{
+    Address, Check, Convert, Find, Implementation, Replace, TypedDate,
+};
 use sundewfrill_host::paper;
 
 use super::buffers::{all_zero, Buffers};
-use super::calls::{ConvertCall, FindCall, ReplaceCall};
+use super::calls::{CheckCall, ConvertCall, DateCall, FindCall, ReplaceCall};
+
+/// The days of the calendar.
+pub const DAYS: RangeInclusive<i64> = -718_430..=2_933_628;
 
 /// Fails with the call that broke a law.
 fn law(holds: bool, name: &str, call: &impl Display, outcome: &impl std::fmt::Debug) {
@@ -70,6 +76,32 @@ fn apart(one: Address, other: Address) -> bool {
 
 fn contains(one: Address, other: Address) -> bool {
     one.a == other.a && (one.v == 0 || one.v == other.v && (one.s == 0 || one.s == other.s))
+}
+
+/// An accepted string has a step or more in each code, a refused one no counts.
+/// A bad code has its number, from 1; no other outcome has one.
+pub fn check(call: &CheckCall, outcome: &Check) {
+    let length = call.code.len() as u64;
+    let marks = call.code.iter().filter(|&&byte| byte == paper::VALUE_MARK);
+    let codes = if length == 0 {
+        0
+    } else {
+        1 + marks.count() as u64
+    };
+    let steps = outcome.loads.saturating_add(outcome.others);
+    let counted = match outcome.refusal {
+        0 => (codes..=length).contains(&steps),
+        _ => steps == 0,
+    };
+    law(counted, "the counts of a checked string", call, outcome);
+    let numbered = match outcome.refusal {
+        0 | 5 => outcome.code_number == 0,
+        6 | 7 => (1..=codes).contains(&outcome.code_number),
+        _ => false,
+    };
+    law(numbered, "the number of a bad code", call, outcome);
+    let long = (outcome.refusal == 5) == (length > 512);
+    law(long, "a string over 512", call, outcome);
 }
 
 /// The output holds the answer and then zeros, scratch holds zeros, a refusal
@@ -149,4 +181,29 @@ pub fn budget(
         outcome.refusal == 15
     };
     law(right, "another budget", call, outcome);
+}
+
+/// An accepted date has a day of the calendar, day 0 without a sign; a refused
+/// one has none.
+pub fn date(call: &DateCall, outcome: &TypedDate) {
+    let given = match outcome.refusal {
+        0 => is_day(outcome.negative, outcome.size),
+        5 | 6 | 12 => (outcome.negative, outcome.size) == (0, 0),
+        _ => false,
+    };
+    law(given, "the day of a typed date", call, outcome);
+    let long = (outcome.refusal == 5) == (call.code.len() > 512);
+    law(long, "a code over 512", call, outcome);
+}
+
+/// Whether sign and size are those of a day of the calendar.
+fn is_day(negative: u64, size: u64) -> bool {
+    let Ok(size) = i64::try_from(size) else {
+        return false;
+    };
+    match negative {
+        0 => DAYS.contains(&size),
+        1 => size > 0 && DAYS.contains(&-size),
+        _ => false,
+    }
 }
