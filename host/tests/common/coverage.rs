@@ -316,16 +316,16 @@ const ELMS: [&str; 31] = [
     "elm =", "elm #", "elm >", "elm <", "elm ]", "elm [", "elm (G)", "elm (T)", "elm (L)",
     "elm (MC)", "elm (MX)", "elm (MY)", "elm (ML) or (MR)", "elm (D)", "no codes",
 ];
-const CODES: [&str; 35] = [
+const CODES: [&str; 36] = [
     "G without skip", "G with skip", "Tn", "Tm,n", "L", "Ln", "Ln,m", "MCA", "MC/A", "MCN", "MC/N",
     "MCU", "MCL", "MCT", "MX", "MY", "ML", "MR", "mask without n", "mask without m", "mask Z",
     "mask ,", "mask without credit", "mask C", "mask D", "mask E", "mask M", "mask N", "mask $",
-    "mask without fill", "mask #", "mask *", "mask %", "D without n", "D without s",
+    "mask without fill", "mask #", "mask *", "mask %", "D without n", "D without s", "D with s",
 ];
 
 /// The limits that converting has.
-const CONVERT_LIMITS: [&str; 13] = [
-    "D with s", "missing place", "element of 1,024", "element of 1,025", "MX on 512", "MX on 513",
+const CONVERT_LIMITS: [&str; 12] = [
+    "missing place", "element of 1,024", "element of 1,025", "MX on 512", "MX on 513",
     "record of 32,768", "record of 32,769", "code string of 512", "code string of 513",
     "budget met exactly", "output met exactly", "answer over 65,536",
 ];
