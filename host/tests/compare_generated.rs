@@ -14,7 +14,6 @@ use std::fmt::{Debug, Display};
 use common::buffers::Buffers;
 use common::calls::{ConvertCall, DateCall, PAPER, PROVED};
 use common::cases::cases;
-use common::coverage::{REPLACE_LIMITS, STEPS};
 use common::generator;
 use common::laws;
 use common::progress::{Progress, USUAL_CASES};
@@ -79,9 +78,9 @@ fn find() {
         let (paper, proved) = (call.run(&PAPER), call.run(&PROVED));
         same(&paper, &proved, "finding", &call);
         laws::find(&call, &proved);
-        coverage.refusal(proved.refusal);
+        coverage.find(&call, &proved);
     });
-    coverage.require("find", &[1, 2, 3, 4], &[]);
+    coverage.require_of_find();
 }
 
 #[test]
@@ -97,7 +96,7 @@ fn replace() {
         laws::replace(&call, &proved, &both.proved);
         coverage.replace(&call, &proved);
     });
-    coverage.require("replace", &[1, 2, 3, 4, 9, 16, 17], &[&REPLACE_LIMITS]);
+    coverage.require_of_replace();
 }
 
 #[test]
@@ -107,12 +106,9 @@ fn check() {
         let (paper, proved) = (call.run(&PAPER), call.run(&PROVED));
         same(&paper, &proved, "checking", &call);
         laws::check(&call, &proved);
-        coverage.refusal(proved.refusal);
-        if proved.refusal == 0 {
-            coverage.string(&call.code);
-        }
+        coverage.check(&call, &proved);
     });
-    coverage.require("check", &[5, 6, 7], &STEPS);
+    coverage.require_of_check();
 }
 
 /// Converting, in two shares: they are most of the work, and run side by side.
@@ -151,9 +147,9 @@ fn date() {
         let (paper, proved) = (call.run(&PAPER), call.run(&PROVED));
         same(&paper, &proved, "reading a typed date", &call);
         laws::date(&call, &proved);
-        coverage.refusal(proved.refusal);
+        coverage.date(&call, &proved);
     });
-    coverage.require("date", &[5, 6, 12], &[]);
+    coverage.require_of_date();
 }
 
 /// Every day of the calendar, printed in either form, and read again.

@@ -10,7 +10,6 @@ mod common;
 use common::buffers::Buffers;
 use common::calls::PAPER;
 use common::cases::cases;
-use common::coverage::{REPLACE_LIMITS, STEPS};
 use common::generator::{self, Rng};
 use common::{examples, laws};
 use sundewfrill_host::outcome::Address;
@@ -29,9 +28,9 @@ fn find() {
         let call = generator::find(rng);
         let outcome = call.run(&PAPER);
         laws::find(&call, &outcome);
-        coverage.refusal(outcome.refusal);
+        coverage.find(&call, &outcome);
     });
-    coverage.require("find", &[1, 2, 3, 4], &[]);
+    coverage.require_of_find();
 }
 
 #[test]
@@ -51,7 +50,7 @@ fn replace() {
         laws::replace_reads_back(&call, &outcome, other, &PAPER, &buffers);
         coverage.replace(&call, &outcome);
     });
-    coverage.require("replace", &[1, 2, 3, 4, 9, 16, 17], &[&REPLACE_LIMITS]);
+    coverage.require_of_replace();
 }
 
 #[test]
@@ -60,12 +59,9 @@ fn check() {
         let call = generator::check(rng);
         let outcome = call.run(&PAPER);
         laws::check(&call, &outcome);
-        coverage.refusal(outcome.refusal);
-        if outcome.refusal == 0 {
-            coverage.string(&call.code);
-        }
+        coverage.check(&call, &outcome);
     });
-    coverage.require("check", &[5, 6, 7], &STEPS);
+    coverage.require_of_check();
 }
 
 #[test]
@@ -93,7 +89,7 @@ fn date() {
         let call = generator::date(rng);
         let outcome = call.run(&PAPER);
         laws::date(&call, &outcome);
-        coverage.refusal(outcome.refusal);
+        coverage.date(&call, &outcome);
     });
-    coverage.require("date", &[5, 6, 12], &[]);
+    coverage.require_of_date();
 }

@@ -1,86 +1,321 @@
-//! What each call has reached, and the limits that it must reach.
+//! What the calls of each kind have reached, and what they must reach: the
+//! limits of document 01 on both sides.
 
-use sundewfrill_host::outcome::{Convert, Replace};
-use sundewfrill_host::paper;
+use sundewfrill_host::outcome::{Address, Check, Convert, Find, Replace, TypedDate};
+use sundewfrill_host::paper::grammar::{self, Code, Conversion, Elm, Operator};
+use sundewfrill_host::paper::{self, ATTRIBUTE_MARK, LEAST_MARK};
 
-use super::super::calls::{ConvertCall, ReplaceCall};
-use super::{Coverage, STEPS};
+use super::super::buffers::Buffers;
+use super::super::calls::{CheckCall, ConvertCall, DateCall, FindCall, ReplaceCall, PAPER};
+use super::super::laws::{came_to_end, DAYS};
+use super::steps::{deepest, STEPS};
+use super::Coverage;
 
+/// What each kind of call must reach, the accepted calls aside: refusals and
+/// tags.
 impl Coverage {
-    /// Fails unless converting reached refusals 1 to 16, every kind of step, and
-    /// both sides of its limits.
+    /// Fails unless finding has reached everything.
+    pub fn require_of_find(&self) {
+        self.require("find", &[1, 2, 3, 4], &[&PLACES, &FINDS]);
+    }
+
+    /// Fails unless replacing has reached everything.
+    pub fn require_of_replace(&self) {
+        let refusals = [1, 2, 3, 4, 9, 16, 17];
+        self.require("replace", &refusals, &[&PLACES, &REPLACES]);
+    }
+
+    /// Fails unless checking has reached everything.
+    pub fn require_of_check(&self) {
+        self.require("check", &[5, 6, 7], &[&STEPS.concat(), &STRINGS]);
+    }
+
+    /// Fails unless converting has reached everything.
     pub fn require_of_convert(&self) {
         let refusals: Vec<u64> = (1..=16).collect();
-        let tags = [STEPS.concat(), CONVERT_LIMITS.to_vec()];
-        let tags: Vec<&[&str]> = tags.iter().map(Vec::as_slice).collect();
+        let steps = STEPS.concat();
+        let ends = [NUMBER_ENDS, RESULT_ENDS, DAY_ENDS].concat();
+        let tags: [&[&str]; 5] = [&steps, &PLACES, &STRINGS, &CONVERTS, &ends];
         self.require("convert", &refusals, &tags);
+    }
+
+    /// Fails unless reading typed dates has reached everything.
+    pub fn require_of_date(&self) {
+        self.require("date", &[5, 6, 12], &[&DATES]);
+    }
+}
+
+const PLACES: [&str; 12] = [
+    "record of 32,768", "record of 32,769", "id of 48", "id of 49", "a of 999", "a of 1,000",
+    "v of 32,768", "v of 32,769", "s of 32,768", "s of 32,769", "s without v", "v of the id",
+];
+const FINDS: [&str; 3] = ["found", "found empty", "missing"];
+const REPLACES: [&str; 10] = [
+    "new element of 1,024", "new element of 1,025", "result of 32,768", "result of 32,769",
+    "new id of 48", "new id of 49", "place made", "empty place made", "output met exactly",
+    "output one short",
+];
+const STRINGS: [&str; 5] = [
+    "code string of 512", "code string of 513", "stack of 16", "stack of 17", "entry not there",
+];
+const CONVERTS: [&str; 13] = [
+    "missing place", "element of 1,024", "element of 1,025", "MX on 512", "MX on 513",
+    "longest record run", "answer over 65,536", "budget met exactly", "budget one short",
+    "output met exactly", "output one short", "scratch of 20,480", "scratch of 20,479",
+];
+const DATES: [&str; 13] = [
+    "code string of 512", "code string of 513", "typed with s", "typed without s",
+    "year of 2 digits", "year of 4 digits", "year 29", "year 30", "day 0 typed", "first day typed",
+    "last day typed", "typed before the first", "typed after the last",
+];
+
+/// One before a range, its first, its last, and one after it.
+type Ends = [&'static str; 4];
+const NUMBER_ENDS: Ends = [
+    "number below the first", "first number", "last number", "number past the last",
+];
+const RESULT_ENDS: Ends = [
+    "result below the first", "first result", "last result", "result past the last",
+];
+const DAY_ENDS: Ends = [
+    "day before the first", "first day", "last day", "day past the last",
+];
+
+/// The greatest number; the least is its negative.
+const LAST_NUMBER: i128 = 999_999_999_999_999;
+
+impl Coverage {
+    /// Notes what a finding has reached.
+    pub fn find(&mut self, call: &FindCall, outcome: &Find) {
+        self.refusal(outcome.refusal);
+        self.place(&call.record, call.at, outcome.refusal);
+        let found = outcome.found == 1;
+        self.tag_if(found && outcome.length > 0, "found");
+        self.tag_if(found && outcome.length == 0, "found empty");
+        self.tag_if(outcome.refusal == 0 && !found, "missing");
     }
 
     /// Notes what a replacing has reached.
     pub fn replace(&mut self, call: &ReplaceCall, outcome: &Replace) {
-        self.refusal(outcome.refusal);
-        let accepted = outcome.refusal == 0;
-        let made = call.record.len() <= paper::RECORD_LENGTH && outcome.refusal == 1;
-        self.tag_if(accepted && call.new.len() == 1_024, "new element of 1,024");
-        self.tag_if(
-            outcome.refusal == 9 && call.new.len() == 1_025,
-            "new element of 1,025",
-        );
+        let (refusal, accepted) = (outcome.refusal, outcome.refusal == 0);
+        self.refusal(refusal);
+        let found = paper::find(&call.record, call.at);
+        self.place(&call.record, call.at, found.refusal);
+        let let_in = found.refusal == 0;
+        let new = call.new.len();
+        self.tag_if(accepted && new == 1_024, "new element of 1,024");
+        self.tag_if(refusal == 9 && new == 1_025, "new element of 1,025");
+        self.tag_if(accepted && call.at.a == 0 && new == 48, "new id of 48");
+        self.tag_if(refusal == 3 && let_in && new == 49, "new id of 49");
+        let made = accepted && found.found == 0;
+        self.tag_if(made, "place made");
+        self.tag_if(made && new == 0, "empty place made");
         self.tag_if(accepted && outcome.length == 32_768, "result of 32,768");
-        self.tag_if(made, "result over 32,768");
-        self.tag_if(
-            accepted && call.at.a == 0 && call.new.len() == 48,
-            "new id of 48",
-        );
-        self.tag_if(outcome.refusal == 3 && call.new.len() == 49, "new id of 49");
-        let missing = paper::find(&call.record, call.at).found == 0;
-        self.tag_if(accepted && missing, "place made");
-        self.tag_if(
-            accepted && missing && call.new.is_empty(),
-            "empty place made",
-        );
+        self.tag_until("result of 32,769", || {
+            refusal == 1 && let_in && new > 0 && {
+                let mut shorter = call.clone();
+                shorter.new.pop();
+                shorter.output_length = paper::RECORD_LENGTH;
+                shorter.run(&PAPER, &mut Buffers::default()).length == 32_768
+            }
+        });
+        let exact = outcome.length == call.output_length as u64;
+        self.tag_if(accepted && exact, "output met exactly");
+        self.tag_until("output one short", || {
+            refusal == 16 && call.output_length > 0 && {
+                let mut longer = call.clone();
+                longer.output_length += 1;
+                longer.run(&PAPER, &mut Buffers::default()).refusal == 0
+            }
+        });
+    }
+
+    /// Notes what a checking has reached.
+    pub fn check(&mut self, call: &CheckCall, outcome: &Check) {
+        self.refusal(outcome.refusal);
+        self.code_string(&call.code, outcome.refusal);
     }
 
     /// Notes what a converting has reached.
     pub fn convert(&mut self, call: &ConvertCall, outcome: &Convert) {
-        self.refusal(outcome.refusal);
-        if outcome.refusal == 0 {
-            self.string(&call.code);
-        }
+        let (refusal, accepted) = (outcome.refusal, outcome.refusal == 0);
+        self.refusal(refusal);
         let found = paper::find(&call.record, call.at);
-        let single = found.length;
-        let of = |length: u64, refusal: u64| single == length && outcome.refusal == refusal;
-        self.tag_if(found.found == 0 && outcome.refusal == 0, "missing place");
-        self.tag_if(of(1_024, 0), "element of 1,024");
-        self.tag_if(of(1_025, 9), "element of 1,025");
-        self.tag_if(of(512, 0) && call.code == b"MX", "MX on 512");
-        self.tag_if(of(513, 9) && call.code == b"MX", "MX on 513");
-        let record = call.record.len();
-        self.tag_if(record == 32_768 && outcome.refusal == 0, "record of 32,768");
-        self.tag_if(record == 32_769 && outcome.refusal == 1, "record of 32,769");
-        let code = call.code.len();
-        self.tag_if(code == 512 && outcome.refusal == 0, "code string of 512");
-        self.tag_if(code == 513 && outcome.refusal == 5, "code string of 513");
-        let whole = outcome.refusal == 0 && outcome.steps > 0;
-        self.tag_if(whole && outcome.steps == call.budget, "budget met exactly");
-        let fits = outcome.refusal == 0 && outcome.length > 0;
-        self.tag_if(fits && outcome.length > 65_536, "answer over 65,536");
-        self.tag_if(
-            fits && outcome.length == call.output_length as u64,
-            "output met exactly",
-        );
+        self.place(&call.record, call.at, found.refusal);
+        self.code_string(&call.code, refusal);
+        self.buffers(call, outcome);
+        let part = &call.record[found.start as usize..][..found.length as usize];
+        if part.iter().all(|&byte| byte < LEAST_MARK) {
+            self.element(&call.code, part, refusal);
+        }
+        self.tag_if(accepted && found.found == 0, "missing place");
+        let longest = call.record.len() == 32_768;
+        self.tag_if(accepted && longest, "longest record run");
+        self.tag_if(accepted && outcome.length > 65_536, "answer over 65,536");
+    }
+
+    /// Notes what a reading of a typed date has reached.
+    pub fn date(&mut self, call: &DateCall, outcome: &TypedDate) {
+        let (refusal, accepted) = (outcome.refusal, outcome.refusal == 0);
+        self.refusal(refusal);
+        self.tag_if(refusal == 6 && call.code.len() == 512, "code string of 512");
+        self.tag_if(refusal == 5 && call.code.len() == 513, "code string of 513");
+        let (front, year) = call.text.split_at(before_digits(&call.text));
+        self.tag_if(accepted && year.len() == 2, "year of 2 digits");
+        self.tag_if(accepted && year.len() == 4, "year of 4 digits");
+        self.tag_if(accepted && year == b"29", "year 29");
+        self.tag_if(accepted && year == b"30", "year 30");
+        let lettered = front.iter().any(u8::is_ascii_alphabetic);
+        self.tag_if(accepted && !lettered, "typed with s");
+        self.tag_if(accepted && lettered, "typed without s");
+        let (first, last) = (*DAYS.start(), *DAYS.end());
+        self.tag_if(accepted && outcome.day() == 0, "day 0 typed");
+        self.tag_if(accepted && outcome.day() == first, "first day typed");
+        self.tag_if(accepted && outcome.day() == last, "last day typed");
+        // These two are refused for their year alone: in another one the same
+        // text is the last day, or the first.
+        let in_year = |year: &[u8]| paper::typed_date(&call.code, &[front, year].concat());
+        self.tag_until("typed before the first", || {
+            refusal == 12 && year == b"0000" && in_year(b"9999") == TypedDate::of_day(last)
+        });
+        self.tag_until("typed after the last", || {
+            refusal == 12 && year == b"10000" && in_year(b"0001") == TypedDate::of_day(first)
+        });
+    }
+
+    /// Notes the limits of a record and an address; `refusal` is finding's.
+    fn place(&mut self, record: &[u8], at: Address, refusal: u64) {
+        let let_in = refusal == 0;
+        self.tag_if(let_in && record.len() == 32_768, "record of 32,768");
+        self.tag_if(refusal == 1 && record.len() == 32_769, "record of 32,769");
+        let end = record.iter().position(|&byte| byte == ATTRIBUTE_MARK);
+        let id = &record[..end.unwrap_or(record.len())];
+        self.tag_if(let_in && id.len() == 48, "id of 48");
+        let plain = id.iter().all(|&byte| byte < LEAST_MARK);
+        self.tag_if(refusal == 3 && id.len() == 49 && plain, "id of 49");
+        self.tag_if(let_in && at.a == 999, "a of 999");
+        self.tag_if(let_in && at.v == 32_768, "v of 32,768");
+        self.tag_if(let_in && at.s == 32_768, "s of 32,768");
+        if refusal != 4 {
+            return;
+        }
+        // Only the one number is wrong: with another one the address is let in.
+        for (wrong, tag, right) in [
+            (at.a == 1_000, "a of 1,000", Address { a: 999, ..at }),
+            (at.v == 32_769, "v of 32,769", Address { v: 32_768, ..at }),
+            (at.s == 32_769, "s of 32,769", Address { s: 32_768, ..at }),
+            (at.v == 0, "s without v", Address { v: 1, ..at }),
+            (at.a == 0, "v of the id", Address { a: 1, ..at }),
+        ] {
+            self.tag_if(wrong && paper::find(b"", right).refusal == 0, tag);
+        }
+    }
+
+    /// Notes the steps and the limits of a code string.
+    fn code_string(&mut self, code: &[u8], refusal: u64) {
+        let accepted = refusal == 0;
+        if accepted {
+            self.steps(code);
+        }
+        self.tag_if(accepted && code.len() == 512, "code string of 512");
+        self.tag_if(refusal == 5 && code.len() == 513, "code string of 513");
+        self.tag_until("stack of 16", || accepted && deepest(code) == Some(16));
+        self.tag_until("stack of 17", || refusal == 7 && deepest(code) == Some(17));
+        self.tag_until("entry not there", || {
+            refusal == 7 && deepest(code).is_none()
+        });
+    }
+
+    /// Notes how far budget, output and scratch of a converting reach.
+    fn buffers(&mut self, call: &ConvertCall, outcome: &Convert) {
+        let (refusal, accepted) = (outcome.refusal, outcome.refusal == 0);
+        let changed = |change: fn(&mut ConvertCall)| {
+            let mut call = call.clone();
+            change(&mut call);
+            call.run(&PAPER, &mut Buffers::default())
+        };
+        let (steps, length) = (outcome.steps, outcome.length);
+        let met = accepted && steps > 0 && steps == call.budget;
+        self.tag_if(met, "budget met exactly");
+        self.tag_until("budget one short", || {
+            refusal == 15 && came_to_end(&changed(|call| call.budget += 1))
+        });
+        let met = accepted && length > 0 && length == call.output_length as u64;
+        self.tag_if(met, "output met exactly");
+        self.tag_until("output one short", || {
+            let some = refusal == 16 && call.output_length > 0;
+            some && changed(|call| call.output_length += 1).refusal == 0
+        });
+        let scratch = call.scratch_length;
+        self.tag_if(accepted && scratch == 20_480, "scratch of 20,480");
+        self.tag_if(refusal == 8 && scratch == 20_479, "scratch of 20,479");
+    }
+
+    /// Notes the limits of an element that is converted by itself.
+    fn element(&mut self, code: &[u8], element: &[u8], refusal: u64) {
+        let length = element.len();
+        self.tag_if(refusal == 0 && length == 1_024, "element of 1,024");
+        self.tag_if(refusal == 9 && length == 1_025, "element of 1,025");
+        self.tag_if(code == b"MX" && refusal == 0 && length == 512, "MX on 512");
+        self.tag_if(code == b"MX" && refusal == 9 && length == 513, "MX on 513");
+        // The ends of a range are told of short codes alone: long ones do more
+        // than to read a number.
+        if code.len() > 40 || !matches!(refusal, 0 | 10) {
+            return;
+        }
+        let Some(number) = number(element) else {
+            return;
+        };
+        match grammar::read(code).as_deref() {
+            Ok([Code::Conversion(Conversion::Mask(_))]) => {
+                self.ends((-LAST_NUMBER, LAST_NUMBER), number, refusal, NUMBER_ENDS);
+            }
+            Ok([Code::Conversion(Conversion::Date(_))]) => {
+                let days = (i128::from(*DAYS.start()), i128::from(*DAYS.end()));
+                self.ends(days, number, refusal, DAY_ENDS);
+            }
+            Ok([Code::Function(elms)]) => {
+                if let Some(result) = result(number, elms) {
+                    self.ends((-LAST_NUMBER, LAST_NUMBER), result, refusal, RESULT_ENDS);
+                }
+            }
+            _ => {}
+        }
+    }
+
+    /// Notes a value at an end of its range, or one past it.
+    fn ends(&mut self, (first, last): (i128, i128), value: i128, refusal: u64, tags: Ends) {
+        self.tag_if(refusal == 10 && value == first - 1, tags[0]);
+        self.tag_if(refusal == 0 && value == first, tags[1]);
+        self.tag_if(refusal == 0 && value == last, tags[2]);
+        self.tag_if(refusal == 10 && value == last + 1, tags[3]);
     }
 }
 
-/// The limits that converting has.
-const CONVERT_LIMITS: [&str; 12] = [
-    "missing place", "element of 1,024", "element of 1,025", "MX on 512", "MX on 513",
-    "record of 32,768", "record of 32,769", "code string of 512", "code string of 513",
-    "budget met exactly", "output met exactly", "answer over 65,536",
-];
+/// Where the digits at the end of a text begin.
+fn before_digits(text: &[u8]) -> usize {
+    let last = text.iter().rposition(|byte| !byte.is_ascii_digit());
+    last.map_or(0, |place| place + 1)
+}
 
-/// The limits that replacing has.
-pub const REPLACE_LIMITS: [&str; 8] = [
-    "new element of 1,024", "new element of 1,025", "result of 32,768", "result over 32,768",
-    "new id of 48", "new id of 49", "place made", "empty place made",
-];
+/// A number in numeric form, of any size that fits.
+fn number(text: &[u8]) -> Option<i128> {
+    std::str::from_utf8(text).ok()?.parse().ok()
+}
+
+/// What `LPV`, a literal and an operator give of this number, both in range.
+fn result(second: i128, elms: &[Elm]) -> Option<i128> {
+    let [Elm::Previous, Elm::Literal(text), Elm::Arithmetic(operator)] = elms else {
+        return None;
+    };
+    let top = number(text)?;
+    if second.abs() > LAST_NUMBER || top.abs() > LAST_NUMBER {
+        return None;
+    }
+    match operator {
+        Operator::Add => Some(second + top),
+        Operator::Subtract => Some(second - top),
+        Operator::Multiply(None) => Some(second * top),
+        _ => None,
+    }
+}

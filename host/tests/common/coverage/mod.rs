@@ -1,13 +1,10 @@
 //! What generated calls have reached: every refusal, every code letter, every
-//! elm, every mask option, every limit.
+//! elm, every mask option, every limit on both sides.
 
 mod limits;
 mod steps;
 
 use std::collections::BTreeSet;
-
-pub use limits::REPLACE_LIMITS;
-pub use steps::STEPS;
 
 /// What was reached by the calls of one kind.
 #[derive(Debug, Default)]
@@ -34,8 +31,15 @@ impl Coverage {
     }
 
     /// Notes a tag if it holds.
-    pub fn tag_if(&mut self, holds: bool, tag: &'static str) {
+    fn tag_if(&mut self, holds: bool, tag: &'static str) {
         if holds {
+            self.tags.insert(tag);
+        }
+    }
+
+    /// The same where it takes a while to tell: no more is asked once it held.
+    fn tag_until(&mut self, tag: &'static str, holds: impl FnOnce() -> bool) {
+        if !self.tags.contains(tag) && holds() {
             self.tags.insert(tag);
         }
     }

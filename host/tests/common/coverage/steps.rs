@@ -1,17 +1,17 @@
-//! The steps of an accepted code string: every code letter, every elm, every
-//! mask option.
+//! The steps of a code string: every code letter, every elm, every mask option;
+//! and the stack that they take.
 
 use sundewfrill_host::paper::grammar::{
     self, CharacterCode, Conversion, Credit, Cut, DateForm, Elm, Fill, Group, LengthCode, Mask,
     Side,
 };
-use sundewfrill_host::paper::VALUE_MARK;
+use sundewfrill_host::paper::{STACK_DEPTH, VALUE_MARK};
 
 use super::Coverage;
 
 impl Coverage {
     /// Notes all steps of an accepted code string.
-    pub fn string(&mut self, string: &[u8]) {
+    pub fn steps(&mut self, string: &[u8]) {
         if string.is_empty() {
             self.tags.insert("no codes");
             return;
@@ -44,6 +44,37 @@ impl Coverage {
                 _ => break,
             }
         }
+    }
+}
+
+/// How many entries the F codes of a string hold at most, if it is in the
+/// grammar, counted up to the first that is one too many; `None` if an elm takes
+/// more than are there.
+pub fn deepest(string: &[u8]) -> Option<usize> {
+    let mut deepest = 0;
+    for code in string.split(|&byte| byte == VALUE_MARK) {
+        let mut depth: usize = 0;
+        for elm in grammar::elms(code).ok().flatten().into_iter().flatten() {
+            let (takes, puts) = entries(elm.ok()?);
+            depth = depth.checked_sub(takes)? + puts;
+            deepest = deepest.max(depth);
+            if depth > STACK_DEPTH {
+                return Some(depth);
+            }
+        }
+    }
+    Some(deepest)
+}
+
+/// How many entries an elm takes and puts.
+fn entries(elm: Elm) -> (usize, usize) {
+    match elm {
+        Elm::Load(_) | Elm::Literal(_) | Elm::Previous => (0, 1),
+        Elm::Arithmetic(_) | Elm::Relation(_) | Elm::Join => (2, 1),
+        Elm::Extract => (3, 1),
+        Elm::Exchange => (2, 2),
+        Elm::Duplicate => (1, 2),
+        Elm::Convert(_) => (1, 1),
     }
 }
 

@@ -73,6 +73,8 @@ fn function(rng: &mut Rng) -> Vec<u8> {
     let careful = !rng.one_in(12);
     let eager = rng.one_in(12);
     let elms = match rng.below(12) {
+        // About as many as the stack holds.
+        _ if eager && rng.one_in(2) => rng.between(14, 17),
         0 => rng.below(60),
         1..=4 => rng.below(3),
         _ => rng.below(12),
@@ -246,7 +248,8 @@ pub fn date_code(rng: &mut Rng) -> Vec<u8> {
     code
 }
 
-fn mask(rng: &mut Rng) -> Vec<u8> {
+/// An ML or MR code.
+pub fn mask(rng: &mut Rng) -> Vec<u8> {
     let mut code = vec![b'M', *rng.pick(b"LR")];
     if !rng.one_in(4) {
         code.push(b'0' + rng.small(10) as u8);

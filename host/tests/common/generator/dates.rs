@@ -39,16 +39,10 @@ pub fn call(rng: &mut Rng) -> DateCall {
 
 /// A date as somebody types it, for a code with this separator.
 fn text(rng: &mut Rng, separator: Option<u8>) -> String {
-    if rng.one_in(80) {
-        return String::new();
-    }
-    let year = year(rng);
-    let months = if rng.one_in(30) { 13 } else { 12 };
-    let month = rng.below(months);
-    let day = match rng.below(8) {
-        0 => *rng.pick(&[0, 1, 28, 29, 30, 31, 32, 99]),
-        1 => *rng.pick(&[28, 29, 30, 31]),
-        _ => rng.between(1, 28),
+    let (day, month, year) = match rng.below(80) {
+        0 => return String::new(),
+        1 | 2 => at_an_end(rng),
+        _ => anywhere(rng),
     };
     let day = digits(rng, day);
     let separator = match separator {
@@ -64,6 +58,32 @@ fn text(rng: &mut Rng, separator: Option<u8>) -> String {
         }
         Some(_) => format!("1/{day}/{year}"),
     }
+}
+
+/// A day, a month from 0 and a year, mostly in the calendar.
+fn anywhere(rng: &mut Rng) -> (u64, u64, String) {
+    let year = year(rng);
+    let months = if rng.one_in(30) { 13 } else { 12 };
+    let month = rng.below(months);
+    let day = match rng.below(8) {
+        0 => *rng.pick(&[0, 1, 28, 29, 30, 31, 32, 99]),
+        1 => *rng.pick(&[28, 29, 30, 31]),
+        _ => rng.between(1, 28),
+    };
+    (day, month, year)
+}
+
+/// The first or the last day of the calendar, or one past it; or day 0.
+fn at_an_end(rng: &mut Rng) -> (u64, u64, String) {
+    const ENDS: [(u64, u64, &str); 5] = [
+        (31, 11, "0000"),
+        (1, 0, "0001"),
+        (31, 11, "9999"),
+        (1, 0, "10000"),
+        (31, 11, "1967"),
+    ];
+    let (day, month, year) = *rng.pick(&ENDS);
+    (day, month, year.to_owned())
 }
 
 /// One or two digits.

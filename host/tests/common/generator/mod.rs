@@ -72,9 +72,10 @@ pub fn check(rng: &mut Rng) -> CheckCall {
 
 /// A call of converting.
 pub fn convert(rng: &mut Rng, buffers: &mut Buffers) -> ConvertCall {
-    let (record, code, at) = match rng.one_in(2_000) {
-        true => swelling(rng),
-        false => suited(rng),
+    let (record, code, at) = match rng.below(2_000) {
+        0 => swelling(rng),
+        1..=15 => at_an_end(rng),
+        _ => suited(rng),
     };
     // Long records with many elements are kept from running for minutes.
     let most = if record.len() > 4_096 {
@@ -118,6 +119,31 @@ fn swelling(rng: &mut Rng) -> (Vec<u8>, Vec<u8>, Address) {
     let literal = vec![b'x'; rng.between(100, 500) as usize];
     let record = [b"K1\xfe", marks.as_slice()].concat();
     let code = [b"F;'", literal.as_slice(), b"'"].concat();
+    (record, code, Address::new(1, 0, 0))
+}
+
+/// One number at an end of the range, or one past it: as it stands, or as the
+/// sum, the difference or the product of two that are inside.
+fn at_an_end(rng: &mut Rng) -> (Vec<u8>, Vec<u8>, Address) {
+    const LAST: i64 = 999_999_999_999_999;
+    let past = rng.one_in(2);
+    let end = LAST + i64::from(past);
+    let sign = if rng.one_in(2) { 1 } else { -1 };
+    let less = rng.between(1, LAST as u64) as i64;
+    let factor = match past {
+        false => *rng.pick(&[1, 3, 27, 37, 41, 271]),
+        true => *rng.pick(&[2, 5, 8, 1_000, 32_768, 10_000_000]),
+    };
+    let two = |number: i64, other: i64, operator: char| {
+        (number, format!("F;LPV;'{other}';{operator}").into_bytes())
+    };
+    let (number, code) = match rng.below(6) {
+        0..=2 => (sign * end, codes::mask(rng)),
+        3 => two(sign * (end - less), sign * less, '+'),
+        4 => two(sign * (end - less), sign * -less, '-'),
+        _ => two(sign * (end / factor), factor, '*'),
+    };
+    let record = [b"K1\xfe", number.to_string().as_bytes()].concat();
     (record, code, Address::new(1, 0, 0))
 }
 

@@ -92,7 +92,8 @@ fn many_empty(rng: &mut Rng) -> Vec<u8> {
 /// A record at or about the greatest length.
 fn vast(rng: &mut Rng, kind: Kind) -> Vec<u8> {
     let length = *rng.pick(&[
-        32_766, 32_767, 32_768, 32_768, 32_768, 32_769, 40_000, 65_540,
+        32_766, 32_767, 32_768, 32_768, 32_768, 32_768, 32_769, 32_769, 32_769, 32_769, 40_000,
+        65_540,
     ]);
     let mut record = b"K1".to_vec();
     match rng.below(4) {
