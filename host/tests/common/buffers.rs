@@ -6,29 +6,32 @@ const GUARD: usize = 32;
 const NOISE: usize = 1 << 16;
 
 /// An output and a scratch.
-#[derive(Default)]
 pub struct Buffers {
     pub output: Buffer,
     pub scratch: Buffer,
 }
 
-/// A buffer that is full of noise, without a single zero, whenever it is lent.
-pub struct Buffer {
-    bytes: Vec<u8>,
-    length: usize,
-    lent: usize,
-    noise: Vec<u8>,
-}
-
-impl Default for Buffer {
+impl Default for Buffers {
+    /// They have no turn in common, so each place of one meets each of the other.
     fn default() -> Self {
-        Buffer {
-            bytes: Vec::new(),
-            length: 0,
-            lent: 0,
-            noise: (0..NOISE).map(noise_byte).collect(),
+        Buffers {
+            output: Buffer::new(32),
+            scratch: Buffer::new(31),
         }
     }
+}
+
+/// A buffer that is full of noise, without a single zero, whenever it is lent,
+/// and each time begins at the next byte of the memory, so that it stands at
+/// every alignment.
+pub struct Buffer {
+    bytes: Vec<u8>,
+    start: usize,
+    length: usize,
+    lent: usize,
+    /// After so many times it begins again where it began first.
+    turn: usize,
+    noise: Vec<u8>,
 }
 
 /// Bytes from 1 to 255 without an evident order.
@@ -38,33 +41,46 @@ fn noise_byte(place: usize) -> u8 {
 }
 
 impl Buffer {
+    fn new(turn: usize) -> Self {
+        Buffer {
+            bytes: Vec::new(),
+            start: 0,
+            length: 0,
+            lent: 0,
+            turn,
+            noise: (0..NOISE).map(noise_byte).collect(),
+        }
+    }
+
     /// Lends `length` dirty bytes, other ones each time.
     pub fn lend(&mut self, length: usize) -> &mut [u8] {
-        self.length = length;
         self.lent += 1;
-        if self.bytes.len() < length + 2 * GUARD {
-            self.bytes.resize(length + 2 * GUARD, 0);
+        self.start = GUARD + self.lent % self.turn;
+        self.length = length;
+        let whole = self.start + length + GUARD;
+        if self.bytes.len() < whole {
+            self.bytes.resize(whole, 0);
         }
         let shift = self.lent % 251;
-        for chunk in self.bytes[..length + 2 * GUARD].chunks_mut(NOISE - 251) {
+        for chunk in self.bytes[..whole].chunks_mut(NOISE - 251) {
             chunk.copy_from_slice(&self.noise[shift..shift + chunk.len()]);
         }
-        &mut self.bytes[GUARD..GUARD + length]
+        &mut self.bytes[self.start..self.start + length]
     }
 
     /// What the lent bytes hold after the call. The bytes around them must be as
     /// they were.
     pub fn after(&self) -> &[u8] {
         assert!(self.guards_hold(), "the call wrote beside its buffer");
-        &self.bytes[GUARD..GUARD + self.length]
+        &self.bytes[self.start..self.start + self.length]
     }
 
     fn guards_hold(&self) -> bool {
         let shift = self.lent % 251;
-        let whole = self.length + 2 * GUARD;
+        let (start, end) = (self.start, self.start + self.length);
         let noise_at = |place: usize| self.noise[shift + place % (NOISE - 251)];
-        (0..GUARD)
-            .chain(whole - GUARD..whole)
+        (start - GUARD..start)
+            .chain(end..end + GUARD)
             .all(|place| self.bytes[place] == noise_at(place))
     }
 }
