@@ -2,7 +2,7 @@
 //! `program.tsv`, and beside the independent program on generated input.
 //!
 //! Needs the program. The environment variable `SUNDEWFRILL_PROGRAM` is the
-//! command that runs it, its words parted by blanks; without it that is
+//! command that runs it, a word a line; without it that is
 //! `../target/bin/console`.
 
 mod common;
@@ -26,20 +26,23 @@ const CASES: u64 = 1_000;
 
 /// What the program writes for this input.
 fn program(input: &[u8]) -> Vec<u8> {
-    let command = env::var(COMMAND_VARIABLE).unwrap_or_else(|_| USUAL_COMMAND.to_owned());
-    let mut words = command.split(' ');
-    let mut child = Command::new(words.next().expect("a command has a word"))
-        .args(words)
+    let command = env::var(COMMAND_VARIABLE);
+    let words = match &command {
+        Ok(command) => command.split('\n').collect(),
+        Err(_) => vec![USUAL_COMMAND],
+    };
+    let mut child = Command::new(words[0])
+        .args(&words[1..])
         .stdin(Stdio::piped())
         .stdout(Stdio::piped())
         .spawn()
-        .unwrap_or_else(|error| panic!("{command}: {error}"));
+        .unwrap_or_else(|error| panic!("{words:?}: {error}"));
     let mut stdin = child.stdin.take().expect("its input is ours");
     // The program stops reading after 65,536 bytes: the rest may find no reader.
     let _ = stdin.write_all(input);
     drop(stdin);
     let output = child.wait_with_output().expect("the program ends");
-    assert!(output.status.success(), "{command}: {}", output.status);
+    assert!(output.status.success(), "{words:?}: {}", output.status);
     output.stdout
 }
 
