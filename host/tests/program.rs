@@ -1,5 +1,6 @@
 //! The program of document 01 itself, run as a user runs it: on all rows of
-//! `program.tsv`, and beside the independent program on generated input.
+//! `program.tsv`, and beside the independent program on generated input and at
+//! the limits of its budget and its output.
 //!
 //! Needs the program. The environment variable `SUNDEWFRILL_PROGRAM` is the
 //! command that runs it, a word a line; without it that is
@@ -46,6 +47,19 @@ fn program(input: &[u8]) -> Vec<u8> {
     output.stdout
 }
 
+/// What the program writes for this input, the independent one being of the
+/// same mind.
+fn compared(input: &[u8]) -> Vec<u8> {
+    let (expected, written) = (paper::program(input), program(input));
+    assert!(
+        expected == written,
+        "the input {input:02x?}\nindependent: {}\nprogram:     {}",
+        String::from_utf8_lossy(&expected),
+        String::from_utf8_lossy(&written)
+    );
+    written
+}
+
 /// Three lines, now and then a damaged or a missing one.
 fn input(rng: &mut Rng, buffers: &mut Buffers) -> Vec<u8> {
     let call = generator::convert(rng, buffers);
@@ -78,18 +92,52 @@ fn generated() {
     let mut progress = Progress::new("program", CASES);
     for number in 0..CASES {
         let input = input(&mut Rng::of_case(seed(), 6, number), &mut buffers);
-        let (expected, written) = (paper::program(&input), program(&input));
-        assert!(
-            expected == written,
-            "the input {input:02x?}\nindependent: {}\nprogram:     {}",
-            String::from_utf8_lossy(&expected),
-            String::from_utf8_lossy(&written)
-        );
-        coverage.refusal(refusal(&expected));
+        coverage.refusal(refusal(&compared(&input)));
         progress.step(number);
     }
     progress.finish(&coverage.summary());
     coverage.require("program", &[4, 6, 7, 10, 12], &[]);
+}
+
+/// The budget and the output of the program, each met exactly and passed by
+/// one; and a mark from MY. No row of `program.tsv` has these refusals.
+#[test]
+fn limits() {
+    // A load of the empty attribute costs 1 and the record's 31,249 bytes; 32 of
+    // them cost 1,000,000. An empty literal costs 1.
+    let record = [b"K1\xfe\xfe", [b'x'; 31_245].as_slice()].concat();
+    let loads = ["F", &";1".repeat(16)].concat().into_bytes();
+    let exact = [loads.as_slice(), &loads].join(&paper::VALUE_MARK);
+    writes(&exact, &record, "0 1000000 \n");
+    let over = [exact.as_slice(), b"F;''"].join(&paper::VALUE_MARK);
+    writes(&over, &record, "15 1000000 \n");
+
+    // 331 values of 98 bytes and the marks between them are 32,768 bytes, 113 of
+    // 289 are 32,769.
+    let (code, record, answer) = swelling(331, 98);
+    assert_eq!(answer.len(), 32_768);
+    writes(&code, &record, &format!("0 32769 {answer}\n"));
+    let (code, record, answer) = swelling(113, 289);
+    assert_eq!(answer.len(), 32_769);
+    writes(&code, &record, "16 32770 \n");
+
+    writes(b"MY", b"K1\xfe4bFB", "13 0 \n");
+}
+
+/// Fails unless attribute 1 converted is written like this.
+fn writes(code: &[u8], record: &[u8], expected: &str) {
+    let input = [code, b"1,0,0", record].join(&b'\n');
+    assert_eq!(String::from_utf8_lossy(&compared(&input)), expected);
+}
+
+/// A code that makes a text of this length of so many empty values, their
+/// record, and the answer with its marks drawn.
+fn swelling(values: usize, length: usize) -> (Vec<u8>, Vec<u8>, String) {
+    let text = "x".repeat(length);
+    let code = format!("F;'{text}'").into_bytes();
+    let marks = vec![paper::VALUE_MARK; values - 1];
+    let record = [b"K1\xfe", marks.as_slice()].concat();
+    (code, record, vec![text; values].join("]"))
 }
 
 /// The refusal number that a written line begins with.
