@@ -12,7 +12,9 @@ use std::hint::black_box;
 use std::process::ExitCode;
 use std::time::{Duration, Instant};
 
-use sundewfrill_host::outcome::{Address, Check, Convert, Find, Implementation, TypedDate};
+use sundewfrill_host::outcome::{
+    Address, Check, Convert, Find, Implementation, Replace, TypedDate,
+};
 use sundewfrill_host::{ffi, paper, SCRATCH_LENGTH};
 
 /// How long one round of one side takes at least.
@@ -41,6 +43,12 @@ enum Call {
         record: Vec<u8>,
         at: Address,
     },
+    Replace {
+        record: Vec<u8>,
+        new: Vec<u8>,
+        at: Address,
+        output_length: usize,
+    },
     Check {
         code: Vec<u8>,
     },
@@ -60,6 +68,7 @@ enum Call {
 #[derive(Debug, PartialEq)]
 enum Outcome {
     Find(Find),
+    Replace(Replace),
     Check(Check),
     Convert(Convert),
     TypedDate(TypedDate),
@@ -69,6 +78,7 @@ impl Outcome {
     fn refusal(&self) -> u64 {
         match self {
             Outcome::Find(outcome) => outcome.refusal,
+            Outcome::Replace(outcome) => outcome.refusal,
             Outcome::Check(outcome) => outcome.refusal,
             Outcome::Convert(outcome) => outcome.refusal,
             Outcome::TypedDate(outcome) => outcome.refusal,
@@ -95,6 +105,7 @@ impl Buffers {
     /// Dirty buffers of the lengths that the call takes.
     fn for_call(call: &Call) -> Self {
         let (output, scratch) = match call {
+            Call::Replace { output_length, .. } => (*output_length, 0),
             Call::Convert { output_length, .. } => (*output_length, SCRATCH_LENGTH),
             _ => (0, 0),
         };
@@ -113,6 +124,14 @@ impl Call {
     fn run(&self, side: &Implementation, buffers: &mut Buffers) -> Outcome {
         match self {
             Call::Find { record, at } => Outcome::Find((side.find)(black_box(record), *at)),
+            Call::Replace {
+                record, new, at, ..
+            } => Outcome::Replace((side.replace)(
+                black_box(record),
+                black_box(new),
+                *at,
+                &mut buffers.output,
+            )),
             Call::Check { code } => Outcome::Check((side.check)(black_box(code))),
             Call::Convert {
                 record, code, at, ..
@@ -271,10 +290,7 @@ fn workloads() -> Vec<Workload> {
     ];
     workloads.extend(long_elements());
     workloads.extend(checks());
-    workloads.push(Workload {
-        name: "finding at the end of a 32 KB record",
-        call: find_at_end(),
-    });
+    workloads.extend(at_end());
     workloads.push(Workload {
         name: "16,000 empty values through MCU",
         call: convert(column(16_000, |_| Vec::new()), b"MCU", 32_768),
@@ -346,7 +362,7 @@ fn padded(mut string: Vec<u8>, open: &[u8], close: &[u8]) -> Vec<u8> {
 }
 
 /// The last value of the last attribute in a record of 32,768 bytes.
-fn find_at_end() -> Call {
+fn at_end() -> Vec<Workload> {
     let attribute = b"\xfeabc\xfddefg\xfchij\xfdklmnopq, and some more text";
     let mut record = b"K1".to_vec();
     while record.len() + attribute.len() <= paper::RECORD_LENGTH {
@@ -354,11 +370,25 @@ fn find_at_end() -> Call {
     }
     record.resize(paper::RECORD_LENGTH, b'r');
     let marks = record.iter().filter(|&&byte| byte == paper::ATTRIBUTE_MARK);
-    let last = marks.count() as u64;
-    Call::Find {
-        record,
-        at: Address::new(last, 3, 1),
-    }
+    let at = Address::new(marks.count() as u64, 3, 1);
+    vec![
+        Workload {
+            name: "finding at the end of a 32 KB record",
+            call: Call::Find {
+                record: record.clone(),
+                at,
+            },
+        },
+        Workload {
+            name: "replacing at the end of a 32 KB record",
+            call: Call::Replace {
+                record,
+                new: b"another text".to_vec(),
+                at,
+                output_length: paper::RECORD_LENGTH,
+            },
+        },
+    ]
 }
 
 /// Converting all of attribute 1.
