@@ -25,10 +25,11 @@
 //!
 //! # The second implementation
 //!
-//! [`paper`] is document 01 written down once more in Rust, from the paper
-//! alone. The tests hold the proved library against it, and the benchmark takes
-//! it as its measure. It builds anywhere; the proved library is for x86-64 and
-//! comes in with the feature `proved`, which is on by default.
+//! [`paper`] is document 01 written down once more in Rust, from it, the two
+//! standards and the readings alone. The tests hold the proved library against
+//! it, and the benchmark takes it as its measure. It builds anywhere; the proved
+//! library is for x86-64 and comes in with the feature `proved`, which is on by
+//! default.
 
 #![deny(unsafe_code)]
 #![warn(missing_docs)]

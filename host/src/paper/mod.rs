@@ -1,4 +1,5 @@
-//! Document 01 written down once more, from the paper alone.
+//! Document 01 written down once more, from it, the two standards and the
+//! readings of `docs/DECISIONS.md` alone.
 //!
 //! Nothing here comes from the proved library or knows how it works: the two
 //! are compared on all they give, every byte of output and scratch included.
