@@ -236,16 +236,21 @@ fn checked_elms<'c>(elms: Elms<'c>, mut take: impl FnMut(Elm<'c>)) -> Result<(),
     }
 }
 
-/// How many entries the stack has after an elm, if it may be carried out.
-fn depth_after(depth: usize, elm: Elm) -> Option<usize> {
-    let (takes, puts) = match elm {
+/// How many entries an elm takes and puts.
+pub fn entries(elm: Elm) -> (usize, usize) {
+    match elm {
         Elm::Load(_) | Elm::Literal(_) | Elm::Previous => (0, 1),
         Elm::Arithmetic(_) | Elm::Relation(_) | Elm::Join => (2, 1),
         Elm::Extract => (3, 1),
         Elm::Exchange => (2, 2),
         Elm::Duplicate => (1, 2),
         Elm::Convert(_) => (1, 1),
-    };
+    }
+}
+
+/// How many entries the stack has after an elm, if it may be carried out.
+fn depth_after(depth: usize, elm: Elm) -> Option<usize> {
+    let (takes, puts) = entries(elm);
     let after = depth.checked_sub(takes)? + puts;
     (after <= STACK_DEPTH).then_some(after)
 }

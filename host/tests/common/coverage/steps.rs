@@ -55,7 +55,7 @@ pub fn deepest(string: &[u8]) -> Option<usize> {
     for code in string.split(|&byte| byte == VALUE_MARK) {
         let mut depth: usize = 0;
         for elm in grammar::elms(code).ok().flatten().into_iter().flatten() {
-            let (takes, puts) = entries(elm.ok()?);
+            let (takes, puts) = grammar::entries(elm.ok()?);
             depth = depth.checked_sub(takes)? + puts;
             deepest = deepest.max(depth);
             if depth > STACK_DEPTH {
@@ -64,18 +64,6 @@ pub fn deepest(string: &[u8]) -> Option<usize> {
         }
     }
     Some(deepest)
-}
-
-/// How many entries an elm takes and puts.
-fn entries(elm: Elm) -> (usize, usize) {
-    match elm {
-        Elm::Load(_) | Elm::Literal(_) | Elm::Previous => (0, 1),
-        Elm::Arithmetic(_) | Elm::Relation(_) | Elm::Join => (2, 1),
-        Elm::Extract => (3, 1),
-        Elm::Exchange => (2, 2),
-        Elm::Duplicate => (1, 2),
-        Elm::Convert(_) => (1, 1),
-    }
 }
 
 /// What an elm is; `first` is its first byte.
