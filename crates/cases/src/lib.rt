@@ -20,6 +20,13 @@ pub const SHOWN: usize = 64;
 // The largest number of 64 bits.
 const MOST: u64 = 18_446_744_073_709_551_615;
 
+// The marks as bytes, which a match can name.
+const ATTRIBUTE: u8 = Mark::ATTRIBUTE.byte;
+
+const VALUE: u8 = Mark::VALUE.byte;
+
+const SUBVALUE: u8 = Mark::SUBVALUE.byte;
+
 // A byte so many times, and where the text goes on behind it.
 struct Piece {
     byte: u8,
@@ -32,9 +39,9 @@ fn drawn(b: u8) -> u8
     ensures { λ r. ⌜ r ≡ shown-byte b ⌝ }
 {
     match b {
-        Mark::ATTRIBUTE => b'^',
-        Mark::VALUE => b']',
-        Mark::SUBVALUE => b'\\',
+        ATTRIBUTE => b'^',
+        VALUE => b']',
+        SUBVALUE => b'\\',
         0 => b'.',
         _ => b,
     }
@@ -197,9 +204,9 @@ fn raw(b: u8) -> u8
     ensures { λ r. ⌜ r ≡ meant true b ⌝ }
 {
     match b {
-        b'^' => Mark::ATTRIBUTE,
-        b']' => Mark::VALUE,
-        b'\\' => Mark::SUBVALUE,
+        b'^' => ATTRIBUTE,
+        b']' => VALUE,
+        b'\\' => SUBVALUE,
         _ => b,
     }
 }

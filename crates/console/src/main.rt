@@ -21,16 +21,23 @@ ghost use Rattle.console.specs.Lines.{numbered, shown, line-most};
 const READS: usize = 65_536;
 // "It converts with budget 1,000,000"
 const BUDGET: u64 = 1_000_000;
-// The longest line: two numbers of 15 digits, two blanks, an answer and a line end.
-const LINE: usize = 2 * 15 + 2 + Limit::RECORD + 1;
+// The longest line: two numbers and their blanks, an answer and a line end.
+const LINE: usize = 2 * (Limit::DIGITS.most + 1) + Limit::RECORD.most + 1;
+
+// The marks as bytes, which a match can name.
+const ATTRIBUTE: u8 = Mark::ATTRIBUTE.byte;
+
+const VALUE: u8 = Mark::VALUE.byte;
+
+const SUBVALUE: u8 = Mark::SUBVALUE.byte;
 
 fn drawn(b: u8) -> u8
     ensures { λ r. ⌜ r ≡ drawn b ⌝ }
 {
     match b {
-        Mark::ATTRIBUTE => b'^',
-        Mark::VALUE => b']',
-        Mark::SUBVALUE => b'\\',
+        ATTRIBUTE => b'^',
+        VALUE => b']',
+        SUBVALUE => b'\\',
         _ => b,
     }
 }
@@ -83,8 +90,8 @@ fn respond<'a>(code: &'a [u8], address: &[u8], item: &'a [u8], line: &mut [u8]) 
         lent::copy_in(b"4 0 \n", line, 0);
         return 5;
     };
-    let mut out = [0u8; Limit::RECORD];
-    let mut scratch = [0u8; Limit::SCRATCH];
+    let mut out = [0u8; Limit::RECORD.most];
+    let mut scratch = [0u8; Limit::SCRATCH.most];
     let converted = convert::convert(item, code, a, v, s, BUDGET, &mut out, &mut scratch);
     let length = converted.length;
     show(converted.number, converted.steps, &out[0..length], line)
@@ -95,7 +102,7 @@ fn line_end(text: &[u8], from: usize) -> usize
     requires { ⌜ from ≤ length (now text) ⌝ }
     ensures { λ r. ⌜ r ≡ from + length (upto 10 10 (drop from (now (text .entry)))) ⌝ }
 {
-    records::next_mark(text, from, text.len(), b'\n', b'\n')
+    lent::first_within(text, from, text.len(), b'\n', b'\n')
 }
 
 // Where the next line begins: "missing lines are empty", so behind the last one it is the end of the text.

@@ -98,7 +98,7 @@ fn element<'a>(
     requires { ⌜ Lent (now item) (now scratch) (now lens) (now work) × Accepts (now code) × (steps ≤ budget) × (plan ≡ plan-of (now code)) ⌝ }
     ensures { λ r. ⌜ Runs (element-outcome (now (item .entry)) (now (code .entry)) v s budget steps (now (text .entry))) r (now (scratch .exit)) (now (lens .exit)) ⌝ }
 {
-    if Limit::ENTRY < text.len() {
+    if Limit::ENTRY.most < text.len() {
         return Ran::Stopped {
             number: refusal::OVER_LONG_ENTRY,
             steps,
@@ -162,7 +162,7 @@ fn pass(mark: u8, at: Position) -> Position
 {
     let v = at.v;
     let s = at.s;
-    if mark == Mark::VALUE {
+    if mark == Mark::VALUE.byte {
         Position { v: v + 1, s: 1 }
     } else {
         Position { v, s: s + 1 }
@@ -247,7 +247,7 @@ fn run<'a>(
     ensures { λ r. ⌜ Walks (within-budget budget 0 (run (now (item .entry)) a v s (codes-in (now (code .entry))))) r (now (out .entry)) (now (out .exit)) ⌝ }
 {
     let mut lens = [0usize; slots::SLOTS];
-    let mut work = [0u8; Limit::ENTRY];
+    let mut work = [0u8; Limit::ENTRY.most];
     let text = records::part(item, a, v, s);
     let plan = machine::running::plan(code);
     walk(
@@ -305,7 +305,7 @@ pub fn convert<'a>(
             loads: _,
             others: _,
         } => {
-            if scratch.len() < Limit::SCRATCH {
+            if scratch.len() < Limit::SCRATCH.most {
                 return refuse(refusal::SHORT_SCRATCH, out, scratch);
             }
             let walked = run(item, code, a, v, s, budget, out, scratch);

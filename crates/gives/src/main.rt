@@ -90,7 +90,7 @@ fn give(code: &[u8], e: &[u8], out: &mut [u8]) -> Given
 fn show_conversion(code: &[u8], e: &[u8])
     requires { ⌜ length (now e) ≤ 1_024 ⌝ }
 {
-    let mut out = [0u8; Limit::ENTRY];
+    let mut out = [0u8; Limit::ENTRY.most];
     say(code);
     say(b" on ");
     say_element(e);
@@ -99,7 +99,7 @@ fn show_conversion(code: &[u8], e: &[u8])
 }
 
 fn show_on(line: &[u8]) {
-    let mut e = [0u8; Limit::ENTRY];
+    let mut e = [0u8; Limit::ENTRY.most];
     let n = spelled(field(line, 2, b'|'), true, &mut e);
     show_conversion(field(line, 0, b'|'), &e[..n]);
 }
@@ -154,7 +154,7 @@ fn say_lengths(second: &[u8], top: &[u8], elm: &[u8]) {
 fn show_binary(second: &[u8], top: &[u8], op: Operator, elm: &[u8])
     requires { ⌜ Operator-within op ⌝ }
 {
-    let mut out = [0u8; Limit::ENTRY];
+    let mut out = [0u8; Limit::ENTRY.most];
     if long(second) {
         say_lengths(second, top, elm);
     } else {
@@ -167,8 +167,8 @@ fn show_binary(second: &[u8], top: &[u8], op: Operator, elm: &[u8])
 fn show_two(line: &[u8], op: Operator)
     requires { ⌜ Operator-within op ⌝ }
 {
-    let mut second = [0u8; Limit::ENTRY];
-    let mut top = [0u8; Limit::ENTRY];
+    let mut second = [0u8; Limit::ENTRY.most];
+    let mut top = [0u8; Limit::ENTRY.most];
     let n = spelled(field(line, 2, b'|'), true, &mut second);
     let k = spelled(field(line, 3, b'|'), true, &mut top);
     show_binary(&second[..n], &top[..k], op, field(line, 0, b'|'));
@@ -184,7 +184,7 @@ fn say_three(third: &[u8], second: &[u8], top: &[u8]) {
 }
 
 fn show_substring(line: &[u8]) {
-    let mut out = [0u8; Limit::ENTRY];
+    let mut out = [0u8; Limit::ENTRY.most];
     let third = field(line, 2, b'|');
     let second = field(line, 3, b'|');
     let top = field(line, 4, b'|');

@@ -35,7 +35,7 @@ ghost use Rattle.grammar.specs.Checking.{
   verdict-of,
 };
 
-const STACK: u64 = Limit::STACK as u64;
+const STACK: u64 = Limit::STACK.most as u64;
 
 // One entry over the stack: it stands for a fault, and stays.
 const FAULT: u64 = STACK + 1;
@@ -187,7 +187,7 @@ pub fn code_end(code: &[u8], from: usize) -> usize
     requires { ⌜ from ≤ length (now code) ⌝ }
     ensures { λ r. ⌜ r ≡ code-end (drop from (now (code .entry))) from ⌝ }
 {
-    first_within(code, from, code.len(), Mark::VALUE, Mark::VALUE)
+    first_within(code, from, code.len(), Mark::VALUE.byte, Mark::VALUE.byte)
 }
 
 // "Bytes 251, 252, 254, 255 and an empty code are 6": whether such a byte stands there, where a scan for marks stopped.
@@ -195,7 +195,7 @@ fn stray(code: &[u8], at: usize) -> bool
     ensures { λ r. ⌜ r ≡ stray (now (code .entry)) at ⌝ }
 {
     if at < code.len() {
-        code[at] != Mark::VALUE
+        code[at] != Mark::VALUE.byte
     } else {
         false
     }
@@ -223,7 +223,7 @@ pub(crate) fn check_codes(code: &[u8]) -> Verdict
     let mut loads = 0;
     let mut others = 0;
     loop {
-        let end = first_within(code, at, code.len(), Mark::BUFFER, Mark::SEGMENT);
+        let end = first_within(code, at, code.len(), Mark::BUFFER.byte, Mark::SEGMENT.byte);
         if stray(code, end) {
             return Verdict::Refused {
                 number: paper::refusal::NOT_IN_GRAMMAR,

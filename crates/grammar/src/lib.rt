@@ -114,7 +114,7 @@ pub fn check(code: &[u8]) -> Verdict
     ensures { λ r. ⌜ r ≡ verdict-of (check (now (code .entry))) ⌝ }
     ensures { λ r. ⌜ report-in r ≡ report (check (now (code .entry))) ⌝ }
 {
-    if Limit::CODE < code.len() {
+    if Limit::CODE.most < code.len() {
         return Verdict::Refused {
             number: paper::refusal::OVER_LONG_CODE,
             code: 0,
@@ -144,7 +144,7 @@ fn typed_by(conversion: Conversion, text: &[u8]) -> TypedDay
 pub fn typed_date(code: &[u8], text: &[u8]) -> TypedDay
     ensures { λ r. ⌜ r ≡ typed-of (typed-date (now (code .entry)) (now (text .entry))) ⌝ }
 {
-    if Limit::CODE < code.len() {
+    if Limit::CODE.most < code.len() {
         return TypedDay::Refused(paper::refusal::OVER_LONG_CODE);
     }
     if lent::marked(code) {

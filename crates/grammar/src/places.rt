@@ -21,7 +21,7 @@ pub(crate) fn peek(code: &[u8], at: usize) -> Ahead
         }
     } else {
         Ahead {
-            byte: Mark::SEGMENT,
+            byte: Mark::SEGMENT.byte,
             next: at,
         }
     }

@@ -22,12 +22,17 @@ ghost use Rattle.grammar.specs.Reading.{
   character-code,
 };
 
+// The marks as bounds of a range of bytes.
+const FIRST_MARK: u8 = Mark::BUFFER.byte;
+
+const LAST_MARK: u8 = Mark::SEGMENT.byte;
+
 // "x any byte not a digit or mark"
 fn separates(byte: u8) -> bool
     ensures { λ r. ⌜ r ≡ separates byte ⌝ }
 {
     match byte {
-        b'0'..=b'9' | Mark::BUFFER..=Mark::SEGMENT => false,
+        b'0'..=b'9' | FIRST_MARK..=LAST_MARK => false,
         _ => true,
     }
 }

@@ -30,7 +30,7 @@ pub fn some_within(text: &[u8], low: u8, high: u8) -> bool
 pub fn marked(text: &[u8]) -> bool
     ensures { λ r. ⌜ r ≡ any is-mark (now (text .entry)) ⌝ }
 {
-    some_within(text, Mark::BUFFER, Mark::SEGMENT)
+    some_within(text, Mark::BUFFER.byte, Mark::SEGMENT.byte)
 }
 
 // The first place from `from` up to `to` with a byte within low .. high, or `to`: byte by byte.

@@ -46,7 +46,7 @@ pub(crate) fn settle_operand(
     requires { ⌜ Slotted (now scratch) (now lens) × (k < stack-most) × (taken ≤ record-most) ⌝ }
     ensures { λ r. ⌜ Puts left taken (limited entry-most (given (now (bytes .entry)))) k r (now (scratch .entry)) (now (lens .entry)) (now (scratch .exit)) (now (lens .exit)) ⌝ }
 {
-    if Limit::ENTRY < bytes.len() {
+    if Limit::ENTRY.most < bytes.len() {
         return Step::Refused(refusal::OVER_LONG_ENTRY);
     }
     settle(bytes, taken, left, scratch, lens, k)

@@ -6,19 +6,19 @@ ghost use lib.ListN.{length};
 ghost use Rattle.paper.specs.Sizes.{entry-most, stack-most};
 ghost use Rattle.machine.specs.Slots.{slots, entry-at, put-in, put-length, exchanged, exchanged-lengths, Slotted};
 
-// Slots: 16 entries, the element on its way through the codes, and one to spare.
-pub const ELEMENT: usize = 16;
+// Slots: the stack's entries, the element on its way through the codes, and one to spare.
+pub const ELEMENT: usize = Limit::STACK.most;
 
-pub const SPARE: usize = 17;
+pub const SPARE: usize = ELEMENT + 1;
 
-pub const SLOTS: usize = 18;
+pub const SLOTS: usize = SPARE + 1;
 
 // What slot k holds, as a part of the scratch.
 pub fn entry<'a>(scratch: &'a [u8], lens: &[usize], k: usize) -> &'a [u8]
     requires { ⌜ Slotted (now scratch) (now lens) × (k < slots) ⌝ }
     ensures { λ r. ⌜ now r ≡ entry-at (now (scratch .entry)) (now (lens .entry)) k ⌝ }
 {
-    let from = k * Limit::ENTRY;
+    let from = k * Limit::ENTRY.most;
     let to = from + lens[k];
     &scratch[from..to]
 }
@@ -29,7 +29,7 @@ pub fn put(src: &[u8], scratch: &mut [u8], lens: &mut [usize], k: usize)
     ensures { λ _. ⌜ now (scratch .exit) ≡ put-in (now (scratch .entry)) k (now (src .entry)) ⌝ }
     ensures { λ _. ⌜ now (lens .exit) ≡ put-length (now (lens .entry)) k (now (src .entry)) ⌝ }
 {
-    lent::copy_in(src, scratch, k * Limit::ENTRY);
+    lent::copy_in(src, scratch, k * Limit::ENTRY.most);
     lens[k] = src.len();
 }
 
@@ -40,7 +40,12 @@ pub fn copy(scratch: &mut [u8], lens: &mut [usize], from: usize, to: usize)
     ensures { λ _. ⌜ now (lens .exit) ≡ put-length (now (lens .entry)) to (entry-at (now (scratch .entry)) (now (lens .entry)) from) ⌝ }
 {
     let count = lens[from];
-    lent::copy_within(scratch, from * Limit::ENTRY, to * Limit::ENTRY, count);
+    lent::copy_within(
+        scratch,
+        from * Limit::ENTRY.most,
+        to * Limit::ENTRY.most,
+        count,
+    );
     lens[to] = count;
 }
 

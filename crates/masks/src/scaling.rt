@@ -1,6 +1,5 @@
 // "The element over ten to the m is shown with n decimals": the size of the scaled number.
 use numbers::writing;
-use paper::Limit;
 ghost use mathlib.Core.Path.{_≡_};
 ghost use Prim.Native.Nat.{_*_, _-_, _^_, _≤_, _<_};
 ghost use Rattle.paper.specs.Sizes.{number-most};
@@ -23,7 +22,7 @@ pub(crate) fn scaled(negative: bool, size: u64, decimals: u64, scale: u64) -> Sc
         return Scaling::Size(rounded(negative, size, over));
     }
     let times = writing::power((decimals - scale) as usize);
-    if Limit::NUMBER / times < size {
+    if numbers::MOST / times < size {
         return Scaling::TooLarge;
     }
     Scaling::Size(size * times)

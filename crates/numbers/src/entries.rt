@@ -56,7 +56,7 @@ fn concatenate(second: &[u8], top: &[u8], out: &mut [u8]) -> Given
 {
     let n = second.len();
     let size = n + top.len();
-    if Limit::ENTRY < size {
+    if Limit::ENTRY.most < size {
         return Given::Refused(paper::refusal::OVER_LONG_ENTRY);
     }
     lent::copy_in(second, out, 0);
@@ -106,7 +106,7 @@ fn cut(third: &[u8], start: Number, count: Number, out: &mut [u8]) -> Given
 {
     let from = least(skipped(start), third.len());
     let size = least(taken(count), third.len() - from);
-    if Limit::ENTRY < size {
+    if Limit::ENTRY.most < size {
         return Given::Refused(paper::refusal::OVER_LONG_ENTRY);
     }
     let end = from + size;

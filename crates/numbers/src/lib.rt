@@ -7,9 +7,13 @@ pub mod reading;
 pub mod reckoning;
 pub mod writing;
 
+use paper::Limit;
 ghost use mathlib.Core.Path.{_≡_};
 ghost use Rattle.paper.specs.Numbers.{signed};
 ghost use Rattle.numbers.specs.Forms.{whole};
+
+// The largest size of a number, as a number has it.
+pub const MOST: u64 = Limit::NUMBER.most as u64;
 
 // A whole number. Zero has no sign.
 pub struct Number {

@@ -1,7 +1,7 @@
 // Numeric form and its value: `form` alone decides what has numeric form.
 use crate::Form;
+use crate::MOST;
 use crate::Number;
-use paper::Limit;
 ghost use mathlib.Core.Option.{some};
 ghost use mathlib.Core.Path.{_≡_};
 ghost use Prim.Native.Nat.{_+_, _*_, _≤_, min};
@@ -62,18 +62,14 @@ fn raised(size: u64, b: u8) -> u64
     ensures { λ r. ⌜ r ≡ min (size * 10 + digit-value b) (number-most + 1) ⌝ }
 {
     let next = size * 10 + (b - b'0') as u64;
-    if next <= Limit::NUMBER {
-        next
-    } else {
-        Limit::NUMBER + 1
-    }
+    if next <= MOST { next } else { MOST + 1 }
 }
 
 // a sign and a size; zero has no sign
 fn sized(negative: bool, size: u64) -> Form
     ensures { λ r. ⌜ r ≡ form-of (some (signed negative size)) ⌝ }
 {
-    if Limit::NUMBER < size {
+    if MOST < size {
         return Form::TooLarge;
     }
     Form::Number(Number::signed(negative, size))

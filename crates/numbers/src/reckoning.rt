@@ -1,11 +1,11 @@
 // Arithmetic of F: both entries as numbers, and what two numbers give. Sizes in range never wrap.
 use crate::Form;
+use crate::MOST;
 use crate::Number;
 use crate::Reckoned;
 use crate::reading;
 use crate::writing;
 use codes::Arithmetic;
-use paper::Limit;
 ghost use mathlib.Core.Path.{_≡_};
 ghost use Prim.Native.Nat.{_*_, _≤_, _<_};
 ghost use lib.Dec.{ltb};
@@ -35,7 +35,7 @@ pub(crate) fn operand(s: &[u8]) -> Reckoned
 fn ranged(x: Number) -> Reckoned
     ensures { λ r. ⌜ reckoned-gives r ≡ ranged (whole x) ⌝ }
 {
-    if x.size <= Limit::NUMBER {
+    if x.size <= MOST {
         return Reckoned::Number(x);
     }
     Reckoned::Refused(paper::refusal::OUT_OF_RANGE)
@@ -89,7 +89,7 @@ fn passes(a: u64, b: u64) -> bool
     if a == 0 {
         return false;
     }
-    Limit::NUMBER / a < b
+    MOST / a < b
 }
 
 fn add(x: Number, y: Number) -> Reckoned

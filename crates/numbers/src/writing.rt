@@ -1,5 +1,6 @@
 // Decimal text: digits of a fixed width, a size without leading zeros, and a number with its sign.
 use crate::Number;
+use paper::Limit;
 ghost use mathlib.Core.List.{_++_};
 ghost use mathlib.Core.Path.{_≡_};
 ghost use Prim.Native.Nat.{_+_, _^_, _≤_};
@@ -9,7 +10,7 @@ ghost use Rattle.paper.specs.Numbers.{digits, decimal, number-text};
 ghost use Rattle.numbers.specs.Forms.{whole};
 
 // The digits of the largest number in range.
-const DIGITS: usize = 15;
+const DIGITS: usize = Limit::DIGITS.most;
 
 const POWERS: [u64; DIGITS + 1] = [
     1,

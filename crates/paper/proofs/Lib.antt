@@ -11,6 +11,5 @@ pub mod Ranges
 pub mod Refusing
 pub mod Replacing
 pub mod Runs
-pub mod Settled
 pub mod Splitting
 pub mod Stack

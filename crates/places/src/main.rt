@@ -110,7 +110,7 @@ fn find(line: &[u8], item: &[u8]) {
 }
 
 fn show_find(line: &[u8]) {
-    let mut item = [0u8; Limit::RECORD + 1];
+    let mut item = [0u8; Limit::RECORD.most + 1];
     let n = spelled(field(line, 2, b'|'), true, &mut item);
     find(line, &item[..n]);
 }
@@ -146,9 +146,9 @@ fn room(line: &[u8]) -> usize
 
 // The output held question marks.
 fn show_replace(line: &[u8]) {
-    let mut item = [0u8; Limit::RECORD + 1];
-    let mut new = [0u8; Limit::ENTRY + 1];
-    let mut out = [b'?'; Limit::RECORD];
+    let mut item = [0u8; Limit::RECORD.most + 1];
+    let mut new = [0u8; Limit::ENTRY.most + 1];
+    let mut out = [b'?'; Limit::RECORD.most];
     let n = spelled(field(line, 2, b'|'), true, &mut item);
     let k = spelled(field(line, 3, b'|'), true, &mut new);
     let size = room(line);

@@ -51,6 +51,11 @@ enum Plan {
     Refused(u64),
 }
 
+// The limits of an address, as an address has them.
+const ATTRIBUTES: u64 = Limit::ATTRIBUTE.most as u64;
+
+const POSITIONS: u64 = Limit::POSITION.most as u64;
+
 // As many bytes as are tested in one go where a scan may be long.
 const BLOCK: usize = 16;
 
@@ -58,30 +63,30 @@ const BLOCK: usize = 16;
 const SHORT: usize = 4 * BLOCK;
 
 // How many bytes are the mark. No early exit, so that it is compiled to SIMD.
-fn tally(text: &[u8], mark: u8) -> u64
-    ensures { λ r. ⌜ r ≡ tally mark (now (text .entry)) ⌝ }
+fn tally(text: &[u8], mark: Mark) -> u64
+    ensures { λ r. ⌜ r ≡ tally (mark .byte) (now (text .entry)) ⌝ }
 {
     let mut n = 0;
     let mut i = 0;
     while i < text.len() {
         let b = text[i];
         i += 1;
-        if b == mark {
+        if b == mark.byte {
             n += 1;
         }
     }
     n
 }
 
-// Past the blocks that hold no byte within low .. high.
-fn pass_blocks(item: &[u8], from: usize, to: usize, low: u8, high: u8) -> usize
+// Past the blocks that hold no mark within low .. high.
+fn pass_blocks(item: &[u8], from: usize, to: usize, low: Mark, high: Mark) -> usize
     requires { ⌜ (from ≤ to) × (to ≤ length (now item)) ⌝ }
-    ensures { λ r. ⌜ (r ≤ to) × (from + length (upto low high (range (now (item .entry)) from to)) ≡ r + length (upto low high (range (now (item .entry)) r to))) ⌝ }
+    ensures { λ r. ⌜ (r ≤ to) × (from + length (upto (low .byte) (high .byte) (range (now (item .entry)) from to)) ≡ r + length (upto (low .byte) (high .byte) (range (now (item .entry)) r to))) ⌝ }
 {
     let mut at = from;
     while BLOCK <= to - at {
         let next = at + BLOCK;
-        if some_within(&item[at..next], low, high) {
+        if some_within(&item[at..next], low.byte, high.byte) {
             return at;
         }
         at = next;
@@ -90,12 +95,12 @@ fn pass_blocks(item: &[u8], from: usize, to: usize, low: u8, high: u8) -> usize
 }
 
 // The same place: by blocks, and the last bytes one by one.
-fn far_mark(item: &[u8], from: usize, to: usize, low: u8, high: u8) -> usize
+fn far_mark(item: &[u8], from: usize, to: usize, low: Mark, high: Mark) -> usize
     requires { ⌜ (from ≤ to) × (to ≤ length (now item)) ⌝ }
-    ensures { λ r. ⌜ r ≡ from + length (upto low high (range (now (item .entry)) from to)) ⌝ }
+    ensures { λ r. ⌜ r ≡ from + length (upto (low .byte) (high .byte) (range (now (item .entry)) from to)) ⌝ }
 {
     let at = pass_blocks(item, from, to, low, high);
-    first_within(item, at, to, low, high)
+    first_within(item, at, to, low.byte, high.byte)
 }
 
 // At most a block behind `from`.
@@ -109,21 +114,21 @@ fn near(from: usize, to: usize) -> usize
     from + BLOCK
 }
 
-// The first place from `from` up to `to` with a byte within low .. high, or `to`.
+// The first place from `from` up to `to` with a mark within low .. high, or `to`.
 // Most elements are short: the first bytes are tested one by one, and blocks only behind them.
-pub fn next_mark(item: &[u8], from: usize, to: usize, low: u8, high: u8) -> usize
+pub fn next_mark(item: &[u8], from: usize, to: usize, low: Mark, high: Mark) -> usize
     requires { ⌜ (from ≤ to) × (to ≤ length (now item)) ⌝ }
-    ensures { λ r. ⌜ r ≡ from + length (upto low high (range (now (item .entry)) from to)) ⌝ }
+    ensures { λ r. ⌜ r ≡ from + length (upto (low .byte) (high .byte) (range (now (item .entry)) from to)) ⌝ }
 {
     if to <= from {
         return to;
     }
     let b = item[from];
-    if (low <= b) & (b <= high) {
+    if (low.byte <= b) & (b <= high.byte) {
         return from;
     }
     let end = near(from, to);
-    let at = first_within(item, from, end, low, high);
+    let at = first_within(item, from, end, low.byte, high.byte);
     if at < end {
         return at;
     }
@@ -131,9 +136,9 @@ pub fn next_mark(item: &[u8], from: usize, to: usize, low: u8, high: u8) -> usiz
 }
 
 // Past n marks, until a mark above them ends the piece that holds them.
-fn skip(item: &[u8], from: usize, mark: u8, n: u64) -> Stop
+fn skip(item: &[u8], from: usize, mark: Mark, n: u64) -> Stop
     requires { ⌜ from ≤ length (now item) ⌝ }
-    ensures { λ r. ⌜ r ≡ skip mark (drop from (now (item .entry))) from n ⌝ }
+    ensures { λ r. ⌜ r ≡ skip (mark .byte) (drop from (now (item .entry))) from n ⌝ }
 {
     let mut at = from;
     let mut left = n;
@@ -142,11 +147,11 @@ fn skip(item: &[u8], from: usize, mark: u8, n: u64) -> Stop
             return Stop { at, left };
         }
         let b = item[at];
-        if (mark < b) & (b <= Mark::ATTRIBUTE) {
+        if (mark.byte < b) & (b <= Mark::ATTRIBUTE.byte) {
             return Stop { at, left };
         }
         at += 1;
-        if b == mark {
+        if b == mark.byte {
             left -= 1;
         }
     }
@@ -154,16 +159,16 @@ fn skip(item: &[u8], from: usize, mark: u8, n: u64) -> Stop
 }
 
 // Past the blocks that end neither the marks to pass nor the piece that holds them.
-fn skip_blocks(item: &[u8], from: usize, mark: u8, n: u64) -> Stop
-    requires { ⌜ (from ≤ length (now item)) × (mark ≤ attribute-mark) ⌝ }
-    ensures { λ r. ⌜ (r .at ≤ length (now (item .entry))) × (skip mark (drop from (now (item .entry))) from n ≡ skip mark (drop (r .at) (now (item .entry))) (r .at) (r .left)) ⌝ }
+fn skip_blocks(item: &[u8], from: usize, mark: Mark, n: u64) -> Stop
+    requires { ⌜ (from ≤ length (now item)) × (mark .byte ≤ attribute-mark) ⌝ }
+    ensures { λ r. ⌜ (r .at ≤ length (now (item .entry))) × (skip (mark .byte) (drop from (now (item .entry))) from n ≡ skip (mark .byte) (drop (r .at) (now (item .entry))) (r .at) (r .left)) ⌝ }
 {
     let mut at = from;
     let mut left = n;
     while BLOCK <= item.len() - at {
         let next = at + BLOCK;
         let passed = tally(&item[at..next], mark);
-        let closed = some_within(&item[at..next], mark + 1, Mark::ATTRIBUTE);
+        let closed = some_within(&item[at..next], mark.byte + 1, Mark::ATTRIBUTE.byte);
         if (left <= passed) | closed {
             return Stop { at, left };
         }
@@ -174,24 +179,24 @@ fn skip_blocks(item: &[u8], from: usize, mark: u8, n: u64) -> Stop
 }
 
 // The same: by blocks, and the last bytes one by one.
-fn far_skip(item: &[u8], from: usize, mark: u8, n: u64) -> Stop
-    requires { ⌜ (from ≤ length (now item)) × (mark ≤ attribute-mark) ⌝ }
-    ensures { λ r. ⌜ r ≡ skip mark (drop from (now (item .entry))) from n ⌝ }
+fn far_skip(item: &[u8], from: usize, mark: Mark, n: u64) -> Stop
+    requires { ⌜ (from ≤ length (now item)) × (mark .byte ≤ attribute-mark) ⌝ }
+    ensures { λ r. ⌜ r ≡ skip (mark .byte) (drop from (now (item .entry))) from n ⌝ }
 {
     let near = skip_blocks(item, from, mark, n);
     skip(item, near.at, mark, near.left)
 }
 
 // Whether a byte x or y is there. No early exit and a flag as wide as a byte, so that it is compiled to SIMD.
-fn holds(text: &[u8], x: u8, y: u8) -> bool
-    ensures { λ r. ⌜ r ≡ any (is-either x y) (now (text .entry)) ⌝ }
+fn holds(text: &[u8], x: Mark, y: Mark) -> bool
+    ensures { λ r. ⌜ r ≡ any (is-either (x .byte) (y .byte)) (now (text .entry)) ⌝ }
 {
     let mut bad = 0u8;
     let mut i = 0;
     while i < text.len() {
         let b = text[i];
         i += 1;
-        if (b == x) | (b == y) {
+        if (b == x.byte) | (b == y.byte) {
             bad = 1;
         }
     }
@@ -202,8 +207,14 @@ fn holds(text: &[u8], x: u8, y: u8) -> bool
 fn lawful_id(item: &[u8]) -> u64
     ensures { λ r. ⌜ r ≡ refusal-of (lawful-id (now (item .entry))) ⌝ }
 {
-    let end = first_within(item, 0, item.len(), Mark::ATTRIBUTE, Mark::ATTRIBUTE);
-    if Limit::ID < end {
+    let end = first_within(
+        item,
+        0,
+        item.len(),
+        Mark::ATTRIBUTE.byte,
+        Mark::ATTRIBUTE.byte,
+    );
+    if Limit::ID.most < end {
         return refusal::BAD_ID;
     }
     if holds(&item[0..end], Mark::SUBVALUE, Mark::VALUE) {
@@ -216,7 +227,7 @@ fn lawful_id(item: &[u8]) -> u64
 pub fn lawful(item: &[u8]) -> u64
     ensures { λ r. ⌜ r ≡ refusal-of (lawful-record (now (item .entry))) ⌝ }
 {
-    if Limit::RECORD < item.len() {
+    if Limit::RECORD.most < item.len() {
         return refusal::OVER_LONG_RECORD;
     }
     if holds(item, Mark::BUFFER, Mark::SEGMENT) {
@@ -229,7 +240,7 @@ pub fn lawful(item: &[u8]) -> u64
 pub fn lawful_address(a: u64, v: u64, s: u64) -> u64
     ensures { λ r. ⌜ r ≡ refusal-of (lawful-address a v s) ⌝ }
 {
-    if !((a <= Limit::ATTRIBUTE) & (v <= Limit::POSITION) & (s <= Limit::POSITION)) {
+    if !((a <= ATTRIBUTES) & (v <= POSITIONS) & (s <= POSITIONS)) {
         return refusal::BAD_ADDRESS;
     }
     if ((v == 0) & (0 < s)) | ((a == 0) & (0 < v)) {
@@ -250,13 +261,13 @@ pub fn lawful_find(item: &[u8], a: u64, v: u64, s: u64) -> u64
 }
 
 // The piece that begins at a place, up to the first mark from `mark` on.
-fn spot_at(item: &[u8], at: usize, mark: u8, attributes: u64, values: u64, subvalues: u64) -> Spot
+fn spot_at(item: &[u8], at: usize, mark: Mark, attributes: u64, values: u64, subvalues: u64) -> Spot
     requires { ⌜ at ≤ length (now item) ⌝ }
-    ensures { λ r. ⌜ r ≡ spot-at mark (now (item .entry)) at attributes values subvalues ⌝ }
+    ensures { λ r. ⌜ r ≡ spot-at (mark .byte) (now (item .entry)) at attributes values subvalues ⌝ }
 {
     Spot {
         start: at,
-        end: first_within(item, at, item.len(), mark, Mark::ATTRIBUTE),
+        end: first_within(item, at, item.len(), mark.byte, Mark::ATTRIBUTE.byte),
         attributes,
         values,
         subvalues,
@@ -264,9 +275,16 @@ fn spot_at(item: &[u8], at: usize, mark: u8, attributes: u64, values: u64, subva
 }
 
 // The same, for a piece that may be long.
-fn far_spot(item: &[u8], at: usize, mark: u8, attributes: u64, values: u64, subvalues: u64) -> Spot
+fn far_spot(
+    item: &[u8],
+    at: usize,
+    mark: Mark,
+    attributes: u64,
+    values: u64,
+    subvalues: u64,
+) -> Spot
     requires { ⌜ at ≤ length (now item) ⌝ }
-    ensures { λ r. ⌜ r ≡ spot-at mark (now (item .entry)) at attributes values subvalues ⌝ }
+    ensures { λ r. ⌜ r ≡ spot-at (mark .byte) (now (item .entry)) at attributes values subvalues ⌝ }
 {
     Spot {
         start: at,
@@ -390,13 +408,13 @@ pub fn part<'a>(item: &'a [u8], a: u64, v: u64, s: u64) -> &'a [u8]
 fn lawful_new(new: &[u8], a: u64) -> u64
     ensures { λ r. ⌜ r ≡ refusal-of (lawful-new (now (new .entry)) a) ⌝ }
 {
-    if Limit::ENTRY < new.len() {
+    if Limit::ENTRY.most < new.len() {
         return refusal::OVER_LONG_ENTRY;
     }
     if lent::marked(new) {
         return refusal::MARK_IN_ELEMENT;
     }
-    if (a == 0) & (Limit::ID < new.len()) {
+    if (a == 0) & (Limit::ID.most < new.len()) {
         return refusal::BAD_ID;
     }
     0
@@ -422,7 +440,7 @@ fn changed_len(spot: Spot, size: usize, count: usize) -> usize
 fn sized(spot: Spot, total: usize, room: usize) -> Plan
     ensures { λ r. ⌜ r ≡ sized-plan spot total room ⌝ }
 {
-    if Limit::RECORD < total {
+    if Limit::RECORD.most < total {
         return Plan::Refused(refusal::OVER_LONG_RECORD);
     }
     if room < total {
@@ -456,11 +474,11 @@ fn write_marks(out: &mut [u8], at: usize, spot: Spot)
     let attributes = spot.attributes as usize;
     let values = spot.values as usize;
     let subvalues = spot.subvalues as usize;
-    lent::fill(out, at, attributes, Mark::ATTRIBUTE);
+    lent::fill(out, at, attributes, Mark::ATTRIBUTE.byte);
     let next = at + attributes;
-    lent::fill(out, next, values, Mark::VALUE);
+    lent::fill(out, next, values, Mark::VALUE.byte);
     let last = next + values;
-    lent::fill(out, last, subvalues, Mark::SUBVALUE);
+    lent::fill(out, last, subvalues, Mark::SUBVALUE.byte);
 }
 
 // The record up to the spot, and the marks that make it: where the new bytes go.

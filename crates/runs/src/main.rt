@@ -152,10 +152,10 @@ fn converted<'a>(line: &[u8], item: &'a [u8], code: &'a [u8], out: &mut [u8], sc
 
 // Both buffers held question marks.
 fn case(line: &[u8]) {
-    let mut item = [0u8; Limit::RECORD + 1];
-    let mut code = [0u8; Limit::CODE + 1];
-    let mut out = [b'?'; Limit::RECORD];
-    let mut scratch = [b'?'; Limit::RECORD];
+    let mut item = [0u8; Limit::RECORD.most + 1];
+    let mut code = [0u8; Limit::CODE.most + 1];
+    let mut out = [b'?'; Limit::RECORD.most];
+    let mut scratch = [b'?'; Limit::RECORD.most];
     let n = spelled(field(line, 2, b'|'), true, &mut item);
     let k = spelled(field(line, 0, b'|'), false, &mut code);
     let room = length_or(field(line, 4, b'|'), OUTPUT);

@@ -154,7 +154,7 @@ pub fn hex(e: &[u8], out: &mut [u8]) -> Given
     ensures { λ r. ⌜ r ≡ given-of (outcome Plain.hex (now (e .entry))) ⌝ }
     ensures { λ _. ⌜ now (out .exit) ≡ written (now (out .entry)) (outcome Plain.hex (now (e .entry))) ⌝ }
 {
-    if Limit::ENTRY < 2 * e.len() {
+    if Limit::ENTRY.most < 2 * e.len() {
         return Given::Refused(refusal::OVER_LONG_ENTRY);
     }
     let mut i = 0;
@@ -210,7 +210,7 @@ pub fn unhex(e: &[u8], out: &mut [u8]) -> Given
     if has_other(e) {
         return Given::Refused(refusal::NOT_CONVERTIBLE);
     }
-    let mut spelled = [0u8; Limit::ENTRY];
+    let mut spelled = [0u8; Limit::ENTRY.most];
     let n = decode(e, &mut spelled);
     let part = &spelled[0..n];
     if lent::marked(part) {
