@@ -12,12 +12,12 @@ returns c = long-record _ (c .if1 .taken)
 
 returns-2 : tie.Need-returns-2
 returns-2 c =
-    let item = now (c .before .before .before .before .args .item) in
+    let item = now (c .before .before .before .before .before .args .item) in
     tested-record item true (c .before .before .if1 .left) (sym (c .if2 .taken) ∙ c .before .holds .ensures)
 
 returns-3 : tie.Need-returns-3
 returns-3 c =
-    let item = now (c .before .before .before .before .before .args .item) in
+    let item = now (c .before .before .before .before .before .before .args .item) in
     c .lawful-id .ensures ∙ tested-record item false (c .before .before .before .if1 .left) (sym (c .before .if2 .left) ∙ c .before .before .holds .ensures)
 
 pub lawful-spec : {M : Type 1} → statement M

@@ -12,29 +12,29 @@ returns : tie.Need-returns
 returns c =
     let s = c .before .before in
     let a = s .args in
-    let none = upto-none (a .low) (a .high) (now (a .item)) (a .to) (s .pre .1) (a .from) (c .if1 .taken) in
+    let none = upto-none (a .low .byte) (a .high .byte) (now (a .item)) (a .to) (s .pre .1) (a .from) (c .if1 .taken) in
     omega arith
 
 returns-2 : tie.Need-returns-2
 returns-2 c =
-    let s = c .before .before .before .before in
+    let s = c .before .before .before .before .before .before in
     let a = s .args in
-    let hit = upto-hit (a .low) (a .high) (now (a .item)) (a .to) (s .pre .1) (a .from) (c .before .before .if1 .left) (c .if2 .taken) in
+    let hit = upto-hit (a .low .byte) (a .high .byte) (now (a .item)) (a .to) (s .pre .1) (a .from) (c .before .before .before .before .if1 .left) (c .if2 .taken) in
     omega arith
 
 returns-3 : tie.Need-returns-3
 returns-3 c =
-    let s = c .before .before .before .before .before .before .before in
+    let s = c .before .before .before .before .before .before .before .before .before in
     let a = s .args in
     let n = c .before .before .near in
-    c .before .first-within .ensures ∙ sym (mark-near (a .low) (a .high) (now (a .item)) (a .from) (n .result) (a .to) (n .ensures .0) (n .ensures .1) (s .pre .1) (omega arith))
+    c .before .first-within .ensures ∙ sym (mark-near (a .low .byte) (a .high .byte) (now (a .item)) (a .from) (n .result) (a .to) (n .ensures .0) (n .ensures .1) (s .pre .1) (omega arith))
 
 returns-4 : tie.Need-returns-4
 returns-4 c =
-    let s = c .before .before .before .before .before .before .before .before in
+    let s = c .before .before .before .before .before .before .before .before .before .before in
     let a = s .args in
     let n = c .before .before .before .near in
-    c .far-mark .ensures ∙ sym (mark-far (a .low) (a .high) (now (a .item)) (a .from) (n .result) (a .to) (n .ensures .0) (n .ensures .1) (s .pre .1) (omega arith))
+    c .far-mark .ensures ∙ sym (mark-far (a .low .byte) (a .high .byte) (now (a .item)) (a .from) (n .result) (a .to) (n .ensures .0) (n .ensures .1) (s .pre .1) (omega arith))
 
 pub next-mark-spec : {M : Type 1} → statement M
 next-mark-spec =

@@ -11,7 +11,7 @@ use Rattle.records.proofs.pass_blocks.Statement.{statement}
 use Rattle.records.proofs.pass_blocks.Tie as tie
 
 abbrev Inv-loop : tie.InvT-loop
-Inv-loop item from to low high at₀ at = (at ≤ to) × (from + length (upto low high (range item from to)) ≡ at + length (upto low high (range item at to)))
+Inv-loop item from to low high at₀ at = (at ≤ to) × (from + length (upto (low .byte) (high .byte) (range item from to)) ≡ at + length (upto (low .byte) (high .byte) (range item at to)))
 
 abbrev μ-loop : tie.MeasureT-loop
 μ-loop item from to low high at₀ at = to - at
@@ -24,7 +24,7 @@ unfolding range
 loop-again c =
     let a = c .before .before .before .before .before .before .args in
     let l = c .before .before .before .before .loop in
-    (omega arith, l .inv .1 ∙ mark-clear (a .low) (a .high) (now (a .item)) (l .at) (l .at + 16) (a .to) (omega arith) (omega arith) (c .before .before .before .before .before .before .pre .1) (sym (c .before .some-within .ensures) ∙ c .if1 .left))
+    (omega arith, l .inv .1 ∙ mark-clear (a .low .byte) (a .high .byte) (now (a .item)) (l .at) (l .at + 16) (a .to) (omega arith) (omega arith) (c .before .before .before .before .before .before .pre .1) (sym (c .before .some-within .ensures) ∙ c .if1 .left))
 
 returns-2 : tie.Need-returns-2 Inv-loop μ-loop
 returns-2 c = c .before .loop .inv

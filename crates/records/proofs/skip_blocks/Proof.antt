@@ -15,19 +15,19 @@ use Rattle.records.proofs.skip_blocks.Statement.{statement}
 use Rattle.records.proofs.skip_blocks.Tie as tie
 
 abbrev Inv-loop : tie.InvT-loop
-Inv-loop item from mark n at₀ left₀ at left = (at ≤ length item) × (skip mark (drop from item) from n ≡ skip mark (drop at item) at left)
+Inv-loop item from mark n at₀ left₀ at left = (at ≤ length item) × (skip (mark .byte) (drop from item) from n ≡ skip (mark .byte) (drop at item) at left)
 
 abbrev μ-loop : tie.MeasureT-loop
 μ-loop item from mark n at₀ left₀ at left = length item - at
 
 returns : tie.Need-returns Inv-loop μ-loop
-returns c = c .before .before .before .before .before .before .loop .inv
+returns c = c .before .before .before .before .before .before .before .loop .inv
 
 -- the block holds fewer marks than are to be passed
-fewer : (c : tie.Else1 Inv-loop μ-loop) → c .before .before .before .tally .result < c .before .before .before .before .before .before .loop .left
+fewer : (c : tie.Else1 Inv-loop μ-loop) → c .before .before .before .before .tally .result < c .before .before .before .before .before .before .before .loop .left
 fewer c =
-    let l = c .before .before .before .before .before .before .loop in
-    let t = c .before .before .before .tally in
+    let l = c .before .before .before .before .before .before .before .loop in
+    let t = c .before .before .before .before .tally in
     leb-false (l .left) (t .result) (or-left (leb (l .left) (t .result)) (c .before .some-within .result) (c .if1 .left))
 
 sub-left : tie.Need-sub-left Inv-loop μ-loop
@@ -36,11 +36,11 @@ sub-left c = let h = fewer c in omega arith
 loop-again : tie.Need-loop-again Inv-loop μ-loop
 unfolding range
 loop-again c =
-    let a = c .before .before .before .before .before .before .before .before .args in
-    let l = c .before .before .before .before .before .before .loop in
-    let t = c .before .before .before .tally in
+    let a = c .before .before .before .before .before .before .before .before .before .args in
+    let l = c .before .before .before .before .before .before .before .loop in
+    let t = c .before .before .before .before .tally in
     let s = c .before .some-within in
-    (omega arith, l .inv .1 ∙ skip-block (a .mark) (now (a .item)) (l .at) (l .at + 16) (l .left) (t .result) (omega arith) (omega arith) (sym (s .ensures) ∙ or-right (leb (l .left) (t .result)) (s .result) (c .if1 .left)) (t .ensures) (fewer c))
+    (omega arith, l .inv .1 ∙ skip-block (a .mark .byte) (now (a .item)) (l .at) (l .at + 16) (l .left) (t .result) (omega arith) (omega arith) (sym (s .ensures) ∙ or-right (leb (l .left) (t .result)) (s .result) (c .if1 .left)) (t .ensures) (fewer c))
 
 returns-2 : tie.Need-returns-2 Inv-loop μ-loop
 returns-2 c = c .before .loop .inv

@@ -8,7 +8,7 @@ use Rattle.records.proofs.spot_at.Tie as tie
 returns : tie.Need-returns
 returns c =
     let a = c .before .before .args in
-    spot-end (a .mark) (now (a .item)) (a .at) (a .attributes) (a .values) (a .subvalues) (c .first-within .result) (c .before .before .pre) (c .first-within .ensures)
+    spot-end (a .mark .byte) (now (a .item)) (a .at) (a .attributes) (a .values) (a .subvalues) (c .first-within .result) (c .before .before .pre) (c .first-within .ensures)
 
 pub spot-at-spec : {M : Type 1} → statement M
 spot-at-spec = tie.close (tie.spec (λ c κs. search needs) returns)
