@@ -88,7 +88,7 @@ fn give(code: &[u8], e: &[u8], out: &mut [u8]) -> Given
 }
 
 fn show_conversion(code: &[u8], e: &[u8])
-    requires { ⌜ length (now e) ≤ 1_024 ⌝ }
+    requires { ⌜ length (now e) ≤ entry-most ⌝ }
 {
     let mut out = [0u8; Limit::ENTRY.most];
     say(code);

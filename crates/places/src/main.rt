@@ -11,6 +11,7 @@ use paper::Given;
 use paper::Limit;
 use records::Found;
 ghost use Prim.Native.Nat.{_≤_};
+ghost use Rattle.paper.specs.Sizes.{record-most};
 
 fn say(text: &[u8]) {
     io::write_all(STDOUT_FILENO, text);
@@ -133,15 +134,18 @@ fn replace(line: &[u8], item: &[u8], new: &[u8], out: &mut [u8]) {
     }
 }
 
+// The longest output.
+const ROOM: u64 = Limit::RECORD.most as u64;
+
 // An output's length: at most a record's.
 fn room(line: &[u8]) -> usize
-    ensures { λ r. ⌜ r ≤ 32_768 ⌝ }
+    ensures { λ r. ⌜ r ≤ record-most ⌝ }
 {
     let n = number(field(line, 4, b'|'));
-    if n < 32_768 {
+    if n < ROOM {
         return n as usize;
     }
-    32_768
+    ROOM as usize
 }
 
 // The output held question marks.

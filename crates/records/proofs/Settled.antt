@@ -1,5 +1,5 @@
 -- Any two outcomes that a contract of this crate allows are equal: of every public call, its result and what the output holds afterwards.
--- Of a part that is handed back: its bytes, and for `extract` also where in memory they stand.
+-- Of a part that is handed back: its bytes, and where in memory they stand.
 use mathlib.Core.Path.{_≡_, sym, _∙_}
 use contract.Lifetimes.{Lfts}
 use Rattle.records.proofs.next_mark.Reads as next-mark
@@ -33,8 +33,8 @@ find-settled κs a r r′ e e′ p q = p ∙ sym q
 extract-settled : (κs : Lfts 1) → (a : _) (r r′ : _) (e e′ : _) → extract.Post κs a r e → extract.Post κs a r′ e′ → (r .now ≡ r′ .now) × (r .ptr ≡ r′ .ptr)
 extract-settled κs a r r′ e e′ p q = (p .0 ∙ sym (q .0), p .1 ∙ sym (q .1))
 
-part-settled : (κs : Lfts 1) → (a : _) (r r′ : _) (e e′ : _) → part.Post κs a r e → part.Post κs a r′ e′ → r .now ≡ r′ .now
-part-settled κs a r r′ e e′ p q = p ∙ sym q
+part-settled : (κs : Lfts 1) → (a : _) (r r′ : _) (e e′ : _) → part.Post κs a r e → part.Post κs a r′ e′ → (r .now ≡ r′ .now) × (r .ptr ≡ r′ .ptr)
+part-settled κs a r r′ e e′ p q = (p .0 ∙ sym (q .0), p .1 ∙ sym (q .1))
 
 replace-settled : (κs : Lfts 3) → (a : _) (r r′ : _) (e e′ : _) → replace.Post κs a r e → replace.Post κs a r′ e′ → (r ≡ r′) × (e .1 .1 .1 .1 .1 .0 .now ≡ e′ .1 .1 .1 .1 .1 .0 .now)
 replace-settled κs a r r′ e e′ p q = (p .0 ∙ sym (q .0), p .1 ∙ sym (q .1))

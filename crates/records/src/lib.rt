@@ -224,7 +224,7 @@ fn lawful_id(item: &[u8]) -> u64
 }
 
 // Refusals 1, 2, 3, the first that holds; 0 for none.
-pub fn lawful(item: &[u8]) -> u64
+fn lawful(item: &[u8]) -> u64
     ensures { λ r. ⌜ r ≡ refusal-of (lawful-record (now (item .entry))) ⌝ }
 {
     if Limit::RECORD.most < item.len() {
@@ -237,7 +237,7 @@ pub fn lawful(item: &[u8]) -> u64
 }
 
 // Refusal 4; 0 for none.
-pub fn lawful_address(a: u64, v: u64, s: u64) -> u64
+fn lawful_address(a: u64, v: u64, s: u64) -> u64
     ensures { λ r. ⌜ r ≡ refusal-of (lawful-address a v s) ⌝ }
 {
     if !((a <= ATTRIBUTES) & (v <= POSITIONS) & (s <= POSITIONS)) {
@@ -352,7 +352,7 @@ fn locate(item: &[u8], a: u64, v: u64, s: u64) -> Spot
 }
 
 // The place of an address, without the tests.
-pub fn place(item: &[u8], a: u64, v: u64, s: u64) -> Found
+fn place(item: &[u8], a: u64, v: u64, s: u64) -> Found
     ensures { λ r. ⌜ r ≡ found-of (given (place (now (item .entry)) a v s)) ⌝ }
 {
     let spot = locate(item, a, v, s);
@@ -399,7 +399,8 @@ pub fn extract<'a>(item: &'a [u8], a: u64, v: u64, s: u64) -> &'a [u8]
 
 // What an address reads, missing as empty, without the tests: what loads into F.
 pub fn part<'a>(item: &'a [u8], a: u64, v: u64, s: u64) -> &'a [u8]
-    ensures { λ r. ⌜ now r ≡ reads (now (item .entry)) (path a v s) ⌝ }
+    ensures bytes { λ r. ⌜ now r ≡ reads (now (item .entry)) (path a v s) ⌝ }
+    ensures there { λ r. ⌜ r .ptr ≡ found-there (item .entry .ptr) (found-of (given (place (now (item .entry)) a v s))) ⌝ }
 {
     cut(item, place(item, a, v, s))
 }

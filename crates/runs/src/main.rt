@@ -10,13 +10,17 @@ use libc::STDIN_FILENO;
 use libc::STDOUT_FILENO;
 use paper::Limit;
 ghost use Prim.Native.Nat.{_≤_};
+ghost use Rattle.paper.specs.Sizes.{record-most};
 
 // What a case is run with when it names no other.
 const BUDGET: u64 = 1_000_000;
 
 const OUTPUT: u64 = 1_100;
 
-const SCRATCH: u64 = 20_480;
+const SCRATCH: u64 = Limit::SCRATCH.most as u64;
+
+// The longest buffer.
+const ROOM: u64 = Limit::RECORD.most as u64;
 
 fn say(text: &[u8]) {
     io::write_all(STDOUT_FILENO, text);
@@ -73,13 +77,13 @@ fn number_or(text: &[u8], usual: u64) -> u64 {
 
 // A buffer's length: at most a record's.
 fn length_or(text: &[u8], usual: u64) -> usize
-    ensures { λ r. ⌜ r ≤ 32_768 ⌝ }
+    ensures { λ r. ⌜ r ≤ record-most ⌝ }
 {
     let n = number_or(text, usual);
-    if n < 32_768 {
+    if n < ROOM {
         return n as usize;
     }
-    32_768
+    ROOM as usize
 }
 
 // What the case names beyond code, address and record.

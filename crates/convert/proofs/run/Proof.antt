@@ -10,7 +10,7 @@ walk-requires c κs =
     let lawful = lawful-numbers _ _ _ _ (start .pre .0) in (
       record { record-fits = lawful .record-fits; slotted = empty-slots _ (start .pre .2); work-fits = work-room },
       start .pre .1,
-      text-short _ _ _ (c .before .before .before .before .before .before .before .part .ensures) (lawful .record-fits),
+      text-short _ _ _ (c .before .before .before .before .before .before .before .part .ensures .0) (lawful .record-fits),
       rw (c .before .before .before .before .before .from-one .ensures) (from-one-most _ (lawful .values)),
       rw (c .before .before .before .before .from-one2 .ensures) (from-one-most _ (lawful .subvalues)),
       c .before .before .before .before .before .before .plan .ensures,
@@ -19,7 +19,7 @@ walk-requires c κs =
 returns : tie.Need-returns
 returns c =
     let start = c .before .before .before .before .before .before .before .before .before .before .before .before .before .before .before .before .before .before .before in
-    walks-run _ _ _ _ _ _ (lawful-numbers _ _ _ _ (start .pre .0)) (c .before .before .before .before .before .before .before .before .before .before .before .before .before .before .part .ensures) (c .before .before .before .before .before .before .before .before .before .before .before .before .from-one .ensures)
+    walks-run _ _ _ _ _ _ (lawful-numbers _ _ _ _ (start .pre .0)) (c .before .before .before .before .before .before .before .before .before .before .before .before .before .before .part .ensures .0) (c .before .before .before .before .before .before .before .before .before .before .before .before .from-one .ensures)
     (c .before .before .before .before .before .before .before .before .before .before .before .from-one2 .ensures) (c .before .before .before .before .before .before .walk .ensures)
 
 pub run-spec : {M : Type 1} → statement M
