@@ -16,26 +16,14 @@ use Rattle.lent.proofs.Laws as Laws
 use Rattle.lent.proofs.Laws.{over-none, over-over, length-over, Laid, laid-more, laid-all}
 use Rattle.cases.specs.Tables.{shown-byte, meant, laid, behind}
 
--- a mark and its drawing, a zero, and any other byte
-pub shown-attribute : (b : ℕ) → b ≡ 254 → 94 ≡ shown-byte b
-unfolding shown-byte drawn
-shown-attribute b e = rw e
-
-pub shown-value : (b : ℕ) → b ≡ 253 → 93 ≡ shown-byte b
-unfolding shown-byte drawn
-shown-value b e = rw e
-
-pub shown-subvalue : (b : ℕ) → b ≡ 252 → 92 ≡ shown-byte b
-unfolding shown-byte drawn
-shown-subvalue b e = rw e
-
+-- a zero, and any other byte
 pub shown-zero : (b : ℕ) → b ≡ 0 → 46 ≡ shown-byte b
 unfolding shown-byte
 shown-zero b e = rw e
 
-pub shown-other : (b : ℕ) → (b ≡ 254 → ⊥) → (b ≡ 253 → ⊥) → (b ≡ 252 → ⊥) → (b ≡ 0 → ⊥) → b ≡ shown-byte b
-unfolding shown-byte drawn
-shown-other b f g h z = rw (ne-eqb b 0 z, ne-eqb b 254 f, ne-eqb b 253 g, ne-eqb b 252 h)
+pub shown-other : (b : ℕ) {x : ℕ} → (b ≡ 0 → ⊥) → x ≡ drawn b → x ≡ shown-byte b
+unfolding shown-byte
+shown-other b z e = rw (ne-eqb b 0 z) e
 
 -- a drawn mark and the mark itself, and any other byte
 pub meant-attribute : (b : ℕ) → b ≡ 94 → 254 ≡ meant true b

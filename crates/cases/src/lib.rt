@@ -20,13 +20,6 @@ pub const SHOWN: usize = 64;
 // The largest number of 64 bits.
 const MOST: u64 = 18_446_744_073_709_551_615;
 
-// The marks as bytes, which a match can name.
-const ATTRIBUTE: u8 = Mark::ATTRIBUTE.byte;
-
-const VALUE: u8 = Mark::VALUE.byte;
-
-const SUBVALUE: u8 = Mark::SUBVALUE.byte;
-
 // A byte so many times, and where the text goes on behind it.
 struct Piece {
     byte: u8,
@@ -38,13 +31,7 @@ struct Piece {
 fn drawn(b: u8) -> u8
     ensures { λ r. ⌜ r ≡ shown-byte b ⌝ }
 {
-    match b {
-        ATTRIBUTE => b'^',
-        VALUE => b']',
-        SUBVALUE => b'\\',
-        0 => b'.',
-        _ => b,
-    }
+    if b == 0 { b'.' } else { Mark::drawn(b) }
 }
 
 fn least(a: usize, b: usize) -> usize
@@ -204,9 +191,9 @@ fn raw(b: u8) -> u8
     ensures { λ r. ⌜ r ≡ meant true b ⌝ }
 {
     match b {
-        b'^' => ATTRIBUTE,
-        b']' => VALUE,
-        b'\\' => SUBVALUE,
+        b'^' => Mark::ATTRIBUTE.byte,
+        b']' => Mark::VALUE.byte,
+        b'\\' => Mark::SUBVALUE.byte,
         _ => b,
     }
 }

@@ -5,7 +5,6 @@ use mathlib.Core.List.{[], _∷_, _++_, map, append-assoc}
 use lib.ListN.{length, take, drop, getD, replicate, length-append, length-map, List·getD-map}
 use lib.Seq.{append-snoc}
 use native.Mathlib.Omega.{arith}
-use borrow.Author.Tests.{ne-eqb}
 use Rattle.paper.specs.Bytes.{Bytes}
 use Rattle.paper.specs.Sizes.{number-digits, record-most}
 use Rattle.paper.specs.Refusals.{refusal-of, answer-of}
@@ -17,7 +16,7 @@ use Rattle.lent.specs.Over.{over}
 use Rattle.lent.proofs.Laws.{over-is, over-over, length-over}
 use Rattle.console.specs.Lines.{numbered, shown, line-most}
 
--- a mark and its drawing, and any other byte
+-- a byte of the text drawn is that byte drawn
 pub drawn-attribute : (b : ℕ) → b ≡ 254 → 94 ≡ drawn b
 unfolding drawn
 drawn-attribute b e = rw e

@@ -24,24 +24,6 @@ const BUDGET: u64 = 1_000_000;
 // The longest line: two numbers and their blanks, an answer and a line end.
 const LINE: usize = 2 * (Limit::DIGITS.most + 1) + Limit::RECORD.most + 1;
 
-// The marks as bytes, which a match can name.
-const ATTRIBUTE: u8 = Mark::ATTRIBUTE.byte;
-
-const VALUE: u8 = Mark::VALUE.byte;
-
-const SUBVALUE: u8 = Mark::SUBVALUE.byte;
-
-fn drawn(b: u8) -> u8
-    ensures { λ r. ⌜ r ≡ drawn b ⌝ }
-{
-    match b {
-        ATTRIBUTE => b'^',
-        VALUE => b']',
-        SUBVALUE => b'\\',
-        _ => b,
-    }
-}
-
 // An answer with its marks drawn, at a place; the place after it.
 fn draw(text: &[u8], line: &mut [u8], at: usize) -> usize
     requires { ⌜ at + length (now text) ≤ length (now line) ⌝ }
@@ -50,7 +32,7 @@ fn draw(text: &[u8], line: &mut [u8], at: usize) -> usize
 {
     let mut j = 0;
     while j < text.len() {
-        line[at + j] = drawn(text[j]);
+        line[at + j] = Mark::drawn(text[j]);
         j += 1;
     }
     at + j

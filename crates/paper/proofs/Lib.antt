@@ -11,5 +11,6 @@ pub mod Ranges
 pub mod Refusing
 pub mod Replacing
 pub mod Runs
+pub mod Settled
 pub mod Splitting
 pub mod Stack

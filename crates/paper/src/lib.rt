@@ -1,7 +1,17 @@
 // Document 01 as definitions (specs/), the laws that speak of the definitions alone (proofs/),
 // and, in code, the mark bytes and size limits that every crate above shares.
 // What the product answers is stated by specs/; the specs/ of the other crates only turn it into the forms that their code has.
+ghost use mathlib.Core.Path.{_≡_};
+ghost use Rattle.paper.specs.Program.{drawn};
+
 pub mod refusal;
+
+// Marks as bytes, which a match can name.
+const ATTRIBUTE: u8 = Mark::ATTRIBUTE.byte;
+
+const VALUE: u8 = Mark::VALUE.byte;
+
+const SUBVALUE: u8 = Mark::SUBVALUE.byte;
 
 // A mark: "Marks are bytes of our choosing by Pick custom". What walks by a mark takes one, so no other byte is passed for it.
 pub struct Mark {
@@ -18,6 +28,18 @@ impl Mark {
     pub const SUBVALUE: Mark = Mark { byte: 252 };
 
     pub const BUFFER: Mark = Mark { byte: 251 };
+
+    // "drawn `^` for 254, `]` for 253 and `\` for 252"; any other byte as it is
+    pub fn drawn(byte: u8) -> u8
+        ensures { λ r. ⌜ r ≡ drawn byte ⌝ }
+    {
+        match byte {
+            ATTRIBUTE => b'^',
+            VALUE => b']',
+            SUBVALUE => b'\\',
+            _ => byte,
+        }
+    }
 }
 
 // A size limit: document 01, "Sizes".
