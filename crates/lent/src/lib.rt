@@ -92,7 +92,7 @@ pub fn copy_in(src: &[u8], dst: &mut [u8], at: usize)
 }
 
 // Front to back, so that no byte is written before it is read: for a place below.
-pub fn copy_down(buf: &mut [u8], from: usize, to: usize, count: usize)
+fn copy_down(buf: &mut [u8], from: usize, to: usize, count: usize)
     requires { ⌜ (from + count ≤ length (now buf)) × (to ≤ from) ⌝ }
     ensures { λ _. ⌜ now (buf .exit) ≡ over (now (buf .entry)) to (take count (drop from (now (buf .entry)))) ⌝ }
 {
@@ -104,7 +104,7 @@ pub fn copy_down(buf: &mut [u8], from: usize, to: usize, count: usize)
 }
 
 // Back to front, so that no byte is written before it is read: for a place above.
-pub fn copy_up(buf: &mut [u8], from: usize, to: usize, count: usize)
+fn copy_up(buf: &mut [u8], from: usize, to: usize, count: usize)
     requires { ⌜ (to + count ≤ length (now buf)) × (from ≤ to) ⌝ }
     ensures { λ _. ⌜ now (buf .exit) ≡ over (now (buf .entry)) to (take count (drop from (now (buf .entry)))) ⌝ }
 {

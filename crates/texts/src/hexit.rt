@@ -7,7 +7,7 @@ ghost use Rattle.paper.specs.Texts.{hex-digit};
 ghost use Rattle.texts.specs.Scans.{is-other, worth};
 
 // "MX writes upper-case hex".
-pub fn digit(n: u8) -> u8
+pub(crate) fn digit(n: u8) -> u8
     requires { ⌜ n < 16 ⌝ }
     ensures { λ r. ⌜ r ≡ hex-digit n ⌝ }
 {
@@ -36,21 +36,21 @@ fn is_small(b: u8) -> bool
 }
 
 // Whether a byte is no hex digit: "MY reads either case". No branch, so that a loop over it is compiled to SIMD.
-pub fn is_other(b: u8) -> bool
+pub(crate) fn is_other(b: u8) -> bool
     ensures { λ r. ⌜ r ≡ is-other b ⌝ }
 {
     !(is_digit(b) | is_capital(b) | is_small(b))
 }
 
 // What a hex digit stands for: the low half of its byte, and 9 more for a letter.
-pub fn value(b: u8) -> u8
+pub(crate) fn value(b: u8) -> u8
     ensures { λ r. ⌜ r ≡ worth b ⌝ }
 {
     (b % 16 + b / 64 * 9) % 16
 }
 
 // The byte that two hex digits spell.
-pub fn byte(h: u8, l: u8) -> u8
+pub(crate) fn byte(h: u8, l: u8) -> u8
     ensures { λ r. ⌜ r ≡ worth h * 16 + worth l ⌝ }
 {
     value(h) * 16 + value(l)

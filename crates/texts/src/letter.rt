@@ -3,7 +3,7 @@ ghost use mathlib.Core.Path.{_≡_};
 ghost use Rattle.paper.specs.Bytes.{is-upper, is-lower, is-letter, is-digit};
 ghost use Rattle.paper.specs.Texts.{raised, lowered};
 
-pub fn is_upper(b: u8) -> bool
+pub(crate) fn is_upper(b: u8) -> bool
     ensures { λ r. ⌜ r ≡ is-upper b ⌝ }
 {
     match b {
@@ -12,7 +12,7 @@ pub fn is_upper(b: u8) -> bool
     }
 }
 
-pub fn is_lower(b: u8) -> bool
+pub(crate) fn is_lower(b: u8) -> bool
     ensures { λ r. ⌜ r ≡ is-lower b ⌝ }
 {
     match b {
@@ -22,13 +22,13 @@ pub fn is_lower(b: u8) -> bool
 }
 
 // A match for each range, put together with no branch: so a loop over it is compiled to SIMD.
-pub fn is_letter(b: u8) -> bool
+pub(crate) fn is_letter(b: u8) -> bool
     ensures { λ r. ⌜ r ≡ is-letter b ⌝ }
 {
     is_upper(b) | is_lower(b)
 }
 
-pub fn is_digit(b: u8) -> bool
+pub(crate) fn is_digit(b: u8) -> bool
     ensures { λ r. ⌜ r ≡ is-digit b ⌝ }
 {
     match b {
@@ -38,7 +38,7 @@ pub fn is_digit(b: u8) -> bool
 }
 
 // A lower-case letter as its capital, any other byte as it is.
-pub fn raise(b: u8) -> u8
+pub(crate) fn raise(b: u8) -> u8
     ensures { λ r. ⌜ r ≡ raised b ⌝ }
 {
     match b {
@@ -48,7 +48,7 @@ pub fn raise(b: u8) -> u8
 }
 
 // A capital as its lower-case letter, any other byte as it is.
-pub fn lower(b: u8) -> u8
+pub(crate) fn lower(b: u8) -> u8
     ensures { λ r. ⌜ r ≡ lowered b ⌝ }
 {
     match b {

@@ -7,14 +7,14 @@ ghost use Rattle.paper.specs.Bytes.{if_then_else_, within};
 ghost use Rattle.texts.specs.Scans.{field-end, fields-after, first-fields};
 
 // A place counted from 1 as one counted from 0.
-pub fn index(start: u64) -> u64
+pub(crate) fn index(start: u64) -> u64
     ensures { λ r. ⌜ r ≡ pred start ⌝ }
 {
     if start == 0 { 0 } else { start - 1 }
 }
 
 // The first `count` bytes, fewer if the element ends.
-pub fn front(e: &[u8], count: u64) -> &[u8]
+pub(crate) fn front(e: &[u8], count: u64) -> &[u8]
     ensures { λ r. ⌜ now r ≡ take count (now (e .entry)) ⌝ }
 {
     if e.len() as u64 <= count {
@@ -25,7 +25,7 @@ pub fn front(e: &[u8], count: u64) -> &[u8]
 }
 
 // What follows the first `skip` bytes.
-pub fn after(e: &[u8], skip: u64) -> &[u8]
+pub(crate) fn after(e: &[u8], skip: u64) -> &[u8]
     ensures { λ r. ⌜ now r ≡ drop skip (now (e .entry)) ⌝ }
 {
     let end = e.len();
@@ -55,7 +55,7 @@ fn end_of_field(e: &[u8], separator: u8, fields: u64) -> usize
 }
 
 // What follows `skip` fields and their separators.
-pub fn skip_fields(e: &[u8], separator: u8, skip: u64) -> &[u8]
+pub(crate) fn skip_fields(e: &[u8], separator: u8, skip: u64) -> &[u8]
     ensures { λ r. ⌜ now r ≡ fields-after separator skip (now (e .entry)) ⌝ }
 {
     if skip == 0 {
@@ -66,7 +66,7 @@ pub fn skip_fields(e: &[u8], separator: u8, skip: u64) -> &[u8]
 }
 
 // The first `count` fields with the separators between them.
-pub fn take_fields(e: &[u8], separator: u8, count: u64) -> &[u8]
+pub(crate) fn take_fields(e: &[u8], separator: u8, count: u64) -> &[u8]
     ensures { λ r. ⌜ now r ≡ first-fields separator count (now (e .entry)) ⌝ }
 {
     if count == 0 {
@@ -77,7 +77,7 @@ pub fn take_fields(e: &[u8], separator: u8, count: u64) -> &[u8]
 }
 
 // The element if its length is asked for, else nothing.
-pub fn admitted(e: &[u8], least: u64, most: u64) -> &[u8]
+pub(crate) fn admitted(e: &[u8], least: u64, most: u64) -> &[u8]
     ensures { λ r. ⌜ now r ≡ if within least most (length (now (e .entry))) then now (e .entry) else [] ⌝ }
 {
     let n = e.len() as u64;
