@@ -4,6 +4,7 @@ pub mod Ceiling
 pub mod DateTexts
 pub mod Entries
 pub mod Examples
+pub mod Fewest
 pub mod Numbered
 pub mod Numerals
 pub mod Predicates

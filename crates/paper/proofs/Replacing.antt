@@ -58,7 +58,7 @@ use Rattle.paper.specs.Records.{
   apart,
   reads,
 }
-use Rattle.paper.proofs.Predicates.{none-of, and-all, all-map}
+use Rattle.paper.proofs.Predicates.{All, none-of, and-all, all-map}
 use Rattle.paper.proofs.Splitting.{
   Without,
   Free,
@@ -68,6 +68,7 @@ use Rattle.paper.proofs.Splitting.{
   split-without,
   join-without,
   split-join,
+  getD-each,
   alter-filled,
   alter-each,
   nth-alter,
@@ -78,16 +79,20 @@ use Rattle.paper.proofs.Splitting.{
 }
 use Rattle.paper.proofs.Refusing.{Passed, pass, passed, when-passed}
 
-abbrev by : ℕ → ℕ → Turn
+abbrev pub by : ℕ → ℕ → Turn
 by m n = record { mark = m; index = n }
 
 -- the marks of the turns are the first of `ms`: every address goes down the same marks
-data Down : List ℕ → List Turn → Type 0 where
+pub data Down : List ℕ → List Turn → Type 0 where
   stop : {ms : List ℕ} → Down ms []
   turn : {m n : ℕ} {ms : List ℕ} {ts : List Turn} → Down ms ts → Down (m ∷ ms) (by m n ∷ ts)
 
+pub down-each : {P : ℕ → Type 0} {ms : List ℕ} {ts : List Turn} → Down ms ts → All P ms → All (λ t. P (t .mark)) ts
+down-each stop hs = none-of
+down-each (turn d) (and-all h hs) = and-all h (down-each d hs)
+
 -- marks that the new bytes are free of, no two alike
-data Ladder (new : Bytes) : List ℕ → Type 0 where
+pub data Ladder (new : Bytes) : List ℕ → Type 0 where
   end : Ladder new []
   rung : {m : ℕ} {ms : List ℕ} → Free m new → Free m ms → Ladder new ms → Ladder new (m ∷ ms)
 
@@ -100,10 +105,10 @@ replaced-without test (turn {m = m} {n = n} d) (and-all e hs) h old k =
     join-without test m e (alter-each n _ none-of (λ p q. replaced-without test d hs h p q) (split-without test m k))
 
 -- the result has the pieces that there were, but for the one that the turn names
-split-replaced : {new : Bytes} {m : ℕ} {ms : List ℕ} {ts : List Turn} → Ladder new (m ∷ ms) → Down ms ts → (n : ℕ) (old : Bytes)
+pub split-replaced : (m : ℕ) {new : Bytes} {ms : List ℕ} {ts : List Turn} → Free m new → Free m ms → Down ms ts → (n : ℕ) (old : Bytes)
     → split m (replaced (by m n ∷ ts) new old) ≡ alter n (λ p. replaced ts new p) (split m old)
 unfolding replaced
-split-replaced (rung {m = m} f g l) d n old =
+split-replaced m f g d n old =
     split-join m (alter-filled n _ _) (alter-each n _ none-of (λ p k. replaced-without (λ b. eqb b m) d g f p k) (split-free m old))
 
 -- Finding the new bytes.
@@ -121,14 +126,14 @@ part-at-replaced (rung f g l) (turn {m = m} {n = n} {ts = ts} d) old q e =
     then-text (nth n (pieces m q)) (λ r. part-at ts r) _
     (nth-placed n (q .start) (split m (q .text))
     ∙ ap (λ bs. nth n (split m bs)) e
-    ∙ ap (λ ps. nth n ps) (split-replaced (rung f g l) d n old)
+    ∙ ap (λ ps. nth n ps) (split-replaced m f g d n old)
     ∙ nth-alter n _ (split m old))
     (λ r i. part-at-replaced l d (getD (split m old) n []) r i)
 
 -- Reading elsewhere.
 
 -- what the turns read, places left out and missing counted as empty
-seen : List Turn → Bytes → Bytes
+unfoldable pub seen : List Turn → Bytes → Bytes
 seen [] bs = bs
 seen (t ∷ ts) bs = seen ts (getD (split (t .mark) bs) (t .index) [])
 
@@ -153,16 +158,21 @@ unfolding part-at seen pieces
 part-seen [] p = refl
 part-seen (t ∷ ts) p = then-seen ts (λ q. part-seen ts q) (t .index) (p .start) (split (t .mark) (p .text))
 
-reads-seen : (item : Bytes) (ts : List Turn) → reads item ts ≡ seen ts item
+pub reads-seen : (item : Bytes) (ts : List Turn) → reads item ts ≡ seen ts item
 unfolding reads whole
 reads-seen item ts = part-seen ts (whole item)
 
+pub seen-without : (test : ℕ → Bool) (ts : List Turn) {bs : Bytes} → Without test bs → Without test (seen ts bs)
+unfolding seen
+seen-without test [] h = h
+seen-without test (t ∷ ts) h = seen-without test ts (getD-each (t .index) none-of (split-without test (t .mark) h))
+
 -- turns that part ways: to another piece by the same mark, here or further down
-data Diverge : List Turn → List Turn → Type 0 where
+pub data Diverge : List Turn → List Turn → Type 0 where
   here : {m n k : ℕ} {ts us : List Turn} → k ≢ n → Diverge (by m n ∷ ts) (by m k ∷ us)
   below : {t : Turn} {ts us : List Turn} → Diverge ts us → Diverge (t ∷ ts) (t ∷ us)
 
-apart-below : (t : Turn) (ts us : List Turn) → apart (t ∷ ts) (t ∷ us) ≡ apart ts us
+pub apart-below : (t : Turn) (ts us : List Turn) → apart (t ∷ ts) (t ∷ us) ≡ apart ts us
 unfolding apart contains
 apart-below t ts us = rw (eq-eqb (t .mark) (t .mark) refl, eq-eqb (t .index) (t .index) refl)
 
@@ -177,22 +187,22 @@ apart-diverge stop e h = absurd h
 apart-diverge (turn d) stop h = absurd h
 apart-diverge (turn {n = n} d) (turn {n = k} e) h = diverge-turn (ℕ-discrete k n) (λ i. apart-diverge d e i) h
 
-seen-replaced : {new : Bytes} {ms : List ℕ} {ts us : List Turn} → Ladder new ms → Down ms ts → Diverge ts us → (old : Bytes)
+seen-replaced : {new : Bytes} {ms : List ℕ} {ts us : List Turn} → Down ms ts → Ladder new ms → Diverge ts us → (old : Bytes)
     → seen us (replaced ts new old) ≡ seen us old
 unfolding seen
-seen-replaced l (turn {m = m} {n = n} d) (here {k = k} {us = us} h) old =
-    ap (λ ps. seen us (getD ps k [])) (split-replaced l d n old) ∙ ap (λ bs. seen us bs) (getD-alter-other n k _ (split m old) h)
-seen-replaced (rung f g l) (turn {m = m} {n = n} d) (below {us = us} h) old =
-    ap (λ ps. seen us (getD ps n [])) (split-replaced (rung f g l) d n old)
+seen-replaced (turn {m = m} {n = n} d) (rung f g l) (here {k = k} {us = us} h) old =
+    ap (λ ps. seen us (getD ps k [])) (split-replaced m f g d n old) ∙ ap (λ bs. seen us bs) (getD-alter-other n k _ (split m old) h)
+seen-replaced (turn {m = m} {n = n} d) (rung f g l) (below {us = us} h) old =
+    ap (λ ps. seen us (getD ps n [])) (split-replaced m f g d n old)
     ∙ ap (λ bs. seen us bs) (getD-alter n _ (split m old))
-    ∙ seen-replaced l d h (getD (split m old) n [])
+    ∙ seen-replaced d l h (getD (split m old) n [])
 
 -- The marks of an address.
 
-abbrev marks : List ℕ
+abbrev pub marks : List ℕ
 marks = attribute-mark ∷ value-mark ∷ subvalue-mark ∷ []
 
-path-down : (a v s : ℕ) → Down marks (path a v s)
+pub path-down : (a v s : ℕ) → Down marks (path a v s)
 unfolding path
 path-down a zero s = turn stop
 path-down a (suc v) zero = turn (turn stop)
@@ -262,11 +272,14 @@ module _ (item : Bytes) (a v s : ℕ) (new : Bytes) (room : ℕ) {answer : Bytes
   unfolding replace replace-tests
   way = passed (replace-tests item a v s new room (replaced (path a v s) new item)) (given (replaced (path a v s) new item)) done
 
-  is-replaced : replaced (path a v s) new item ≡ answer
+  pub is-replaced : replaced (path a v s) new item ≡ answer
   is-replaced = let e = way .1 in cc
 
   facts : Granted item a v s new answer
   facts = granted item a v s new room answer (rw is-replaced at (way .0))
+
+  pub new-ladder : Ladder new marks
+  new-ladder = ladder (facts .unmarked)
 
   answer-inner : Without is-outer-mark answer
   unfolding is-outer-mark
@@ -285,7 +298,7 @@ module _ (item : Bytes) (a v s : ℕ) (new : Bytes) (room : ℕ) {answer : Bytes
   pub found-after-replace : (p : Part) × (find answer a v s ≡ given (some p)) × (p .text ≡ new)
   unfolding find place whole
   found-after-replace =
-      let there = part-at-replaced (ladder (facts .unmarked)) (path-down a v s) item (whole answer) (sym is-replaced) in
+      let there = part-at-replaced new-ladder (path-down a v s) item (whole answer) (sym is-replaced) in
       let (p, e, i) = map-eq-some-iff (λ q. q .text) (place answer a v s) .0 there in
       (p, pass (and-all replaced-is-lawful (and-all (facts .address) none-of)) (ap given e), i)
 
@@ -298,5 +311,5 @@ module _ (item : Bytes) (a v s : ℕ) (new : Bytes) (room : ℕ) {answer : Bytes
       → reads answer (path a′ v′ s′) ≡ reads item (path a′ v′ s′)
   apart-reads-as-before a′ v′ s′ h =
       let ways = apart-diverge (path-down a v s) (path-down a′ v′ s′) h in
-      let e = seen-replaced (ladder (facts .unmarked)) (path-down a v s) ways item in
+      let e = seen-replaced (path-down a v s) new-ladder ways item in
       simp (reads-seen, ← is-replaced) e

@@ -73,6 +73,10 @@ pub told-then : {A B : Type 0} {P : A → Type 0} {Q : B → Type 0} {o : Option
 told-then k absent h = absent
 told-then k (present {a = a} p) h = h a p
 
+pub told-both : {A : Type 0} {P Q : A → Type 0} {o : Option A} → Told P o → Told Q o → Told (λ a. P a × Q a) o
+told-both absent absent = absent
+told-both (present p) (present q) = present (p, q)
+
 -- Splitting and joining.
 
 filled-opened : (t : Bool) (b : ℕ) (ps : List Bytes) → Filled (opened t b ps)
@@ -136,6 +140,10 @@ unfolding join
 split-join m filled (and-all f none-of) = split-last m f
 split-join m filled (and-all {a = p} f (and-all g hs)) = split-next m _ f ∙ ap (λ r. p ∷ r) (split-join m filled (and-all g hs))
 
+pub join-next : (m : ℕ) (p : Bytes) {ps : List Bytes} → Filled ps → join m (p ∷ ps) ≡ p ++ m ∷ join m ps
+unfolding join
+join-next m p filled = refl
+
 -- The n-th.
 
 pub nth-inside : {A : Type 0} (n : ℕ) (xs : List A) (d : A) → n < length xs → nth n xs ≡ some (getD xs n d)
@@ -161,6 +169,11 @@ unfolding nth
 nth-told n none-of = absent
 nth-told zero (and-all h hs) = present h
 nth-told (suc n) (and-all h hs) = nth-told n hs
+
+pub getD-each : {P : Bytes → Type 0} (n : ℕ) {ps : List Bytes} → P [] → All P ps → P (getD ps n [])
+getD-each n e none-of = e
+getD-each zero e (and-all h hs) = h
+getD-each (suc n) e (and-all h hs) = getD-each n e hs
 
 -- Altering the n-th piece.
 
@@ -221,6 +234,11 @@ nth-placed n start [] = refl
 nth-placed zero start (p ∷ ps) = refl
 nth-placed (suc n) start (p ∷ ps) = nth-placed n (start + length p + 1) ps
 
+pub placed-each : {P : Bytes → Type 0} (start : ℕ) {ps : List Bytes} → All P ps → All (λ p. P (p .text)) (placed start ps)
+unfolding placed
+placed-each start none-of = none-of
+placed-each start (and-all {a = p} h hs) = and-all h (placed-each (start + length p + 1) hs)
+
 -- the part p stands in the part w, where its start says
 pub record Inside (w p : Part) : Type 0 where
   pub before : Bytes
@@ -228,7 +246,7 @@ pub record Inside (w p : Part) : Type 0 where
   pub text-is : w .text ≡ before ++ p .text ++ after
   pub start-is : p .start ≡ w .start + length before
 
-abbrev part : ℕ → Bytes → Part
+abbrev pub part : ℕ → Bytes → Part
 part start text = record { start = start; text = text }
 
 inside-front : (start : ℕ) (text p after : Bytes) → text ≡ p ++ after → Inside (part start text) (part start p)
