@@ -14,7 +14,7 @@ use Rattle.paper.specs.Sizes.{entry-most}
 use Rattle.paper.specs.Refusals.{Res, given, refused}
 use Rattle.paper.specs.Answers.{given-of, written}
 use Rattle.paper.specs.Steps.{limited}
-use Rattle.paper.specs.Numbers.{number, number-text, compared, holds, concatenate, relate, binary-gives, substring-gives}
+use Rattle.paper.specs.Numbers.{number, number-text, compared, holds, concatenate, relate, binary-gives, skipped, taken, substring-gives}
 use Rattle.paper.specs.declared.Given.{Given}
 use Rattle.paper.proofs.Numerals.{length-text}
 use Rattle.lent.specs.Over.{over}
@@ -27,12 +27,11 @@ use Rattle.numbers.specs.declared.Number.{Number}
 use Rattle.numbers.specs.declared.Order.{Order}
 use Rattle.numbers.specs.declared.Compared.{Compared}
 use Rattle.numbers.specs.declared.Reckoned.{Reckoned}
-use Rattle.numbers.specs.Forms.{whole}
+use Rattle.numbers.specs.Forms.{whole, reckoned-gives}
 use Rattle.numbers.specs.Orders.{order-of, compared-gives}
-use Rattle.numbers.specs.Reckonings.{reckoned-gives, calculation}
-use Rattle.numbers.specs.Scans.{truth-byte, skips, takes}
-use Rattle.numbers.proofs.ComparingLaws.{compared-refusal}
-use Rattle.numbers.proofs.ReckoningLaws.{operand-refusal, texted}
+use Rattle.numbers.specs.Reckonings.{calculation}
+use Rattle.numbers.specs.Scans.{truth-byte}
+use Rattle.numbers.proofs.ReckoningLaws.{texted}
 
 -- an answer, and the buffer after it
 abbrev pub Answered : Res Bytes → Bytes → Bytes → Given → Type 0
@@ -66,10 +65,8 @@ module _ (op : Arithmetic) (s t d : Bytes) where
       given-entry (binary-gives (arithmetic-of op) s t) d (number-text (whole x)) e n (texted s t op ∙ rw (← h))
       (omega (arith, length-text (whole x), text-room)) l f
 
-  pub uncomputed : (n : ℕ) → reckoned-gives (Reckoned.Refused n) ≡ calculation op s t
-      → Answered (binary-gives (arithmetic-of op) s t) d d (Given.Refused n)
-  unfolding reckoned-gives
-  uncomputed n h = refused-entry (binary-gives (arithmetic-of op) s t) d n (texted s t op ∙ rw (← h))
+  pub uncomputed : (n : ℕ) → calculation op s t ≡ refused n → Answered (binary-gives (arithmetic-of op) s t) d d (Given.Refused n)
+  uncomputed n h = refused-entry (binary-gives (arithmetic-of op) s t) d n (texted s t op ∙ rw h)
 
 -- a relation: 1 where it holds, else 0
 first-byte : (b : ℕ) (d : Bytes) → 0 < length d → set d 0 b ≡ (b ∷ []) ++ drop 1 d
@@ -88,9 +85,9 @@ module _ (r : Relation) (s t d : Bytes) where
       go true g = rw g
       go false g = rw g
 
-  pub unrelated : (n : ℕ) → compared-gives (Compared.Refused n) ≡ compared s t → Answered (binary-gives (relate (relation-of r)) s t) d d (Given.Refused 10)
-  unfolding compared-gives binary-gives
-  unrelated n h = refused-entry (binary-gives (relate (relation-of r)) s t) d 10 (rw (← compared-refusal s t n h))
+  pub unrelated : (n : ℕ) → compared s t ≡ refused n → Answered (binary-gives (relate (relation-of r)) s t) d d (Given.Refused n)
+  unfolding binary-gives
+  unrelated n h = refused-entry (binary-gives (relate (relation-of r)) s t) d n (rw h)
 
 -- "`:` puts top after second."
 module _ (s t d : Bytes) where
@@ -149,20 +146,19 @@ module _ (m n from size : ℕ) (s d : Bytes) (f : from ≡ min m (length s)) (l 
 
 -- "start in second (below 1 counts as 1), length in top (below 0 counts as 0)"
 module _ (u s t d : Bytes) where
-  pub no-start : (n : ℕ) → reckoned-gives (Reckoned.Refused n) ≡ number s → Answered (substring-gives u s t) d d (Given.Refused 10)
+  pub no-start : (n : ℕ) → number s ≡ refused n → Answered (substring-gives u s t) d d (Given.Refused n)
   unfolding substring-gives
-  no-start n h = refused-entry (substring-gives u s t) d 10 (rw (← operand-refusal s n h))
+  no-start n h = refused-entry (substring-gives u s t) d n (rw h)
 
-  pub no-count : (x : Number) (n : ℕ) → reckoned-gives (Reckoned.Number x) ≡ number s → reckoned-gives (Reckoned.Refused n) ≡ number t
-      → Answered (substring-gives u s t) d d (Given.Refused 10)
-  unfolding substring-gives reckoned-gives
-  no-count x n h l = refused-entry (substring-gives u s t) d 10 (rw (← h, ← operand-refusal t n l))
+  pub no-count : (x : Number) (n : ℕ) → number s ≡ given (whole x) → number t ≡ refused n → Answered (substring-gives u s t) d d (Given.Refused n)
+  unfolding substring-gives
+  no-count x n h k = refused-entry (substring-gives u s t) d n (rw (h, k))
 
-  pub by-cut : (x y : Number) (e : Bytes) (r : Given) → reckoned-gives (Reckoned.Number x) ≡ number s → reckoned-gives (Reckoned.Number y) ≡ number t
-      → Answered (given (take (takes (whole y)) (drop (skips (whole x)) u))) d e r
+  pub by-cut : (x y : Number) (e : Bytes) (r : Given) → number s ≡ given (whole x) → number t ≡ given (whole y)
+      → Answered (given (take (taken (whole y)) (drop (skipped (whole x)) u))) d e r
       → Answered (substring-gives u s t) d e r
-  unfolding substring-gives reckoned-gives
-  by-cut x y e r h k g = rw (← h, ← k) g
+  unfolding substring-gives
+  by-cut x y e r h k g = rw (h, k) g
 
 -- the operator as an arm knows it
 pub as-told : (op told : Operator) (s t d e : Bytes) (r : Given) → op ≡ told

@@ -1,24 +1,53 @@
--- What a number code (ML, MR and D alike) gives on an element, by the element's numeric form as the code has it. Assumes nothing.
+-- What each case of a reckoning says of the definitions, and what a number code (ML, MR and D alike) gives by it. Assumes nothing.
 use mathlib.Core.Path.{_≡_, refl, sym, ap, _∙_}
 use mathlib.Core.Bool.{Bool, true, false}
 use mathlib.Core.List.{[], _∷_}
 use mathlib.Core.Option.{Option, none, some}
+use Prim.Native.Nat.{ℕ, _≤_}
 use native.Mathlib.Omega.{arith}
 use lib.Dec.{leb}
 use lib.ListN.{length}
-use Rattle.paper.specs.Bytes.{Bytes, if_then_else_}
+use borrow.Author.Tests.{leb-true}
+use Rattle.paper.specs.Bytes.{Bytes}
 use Rattle.paper.specs.Sizes.{number-most}
-use Rattle.paper.specs.Refusals.{Res, given, refused, _>>=_, _>>_, refuse_unless_}
+use Rattle.paper.specs.Refusals.{Res, given, refused, _>>=_, _>>_, refuse_unless_, out-of-range}
 use Rattle.paper.specs.Numbers.{Number as Whole, numeric, ranged}
 use Rattle.paper.specs.Masks.{on-number, number-gives}
-use Rattle.numbers.specs.declared.Form.{Form}
-use Rattle.numbers.specs.Forms.{whole, coded, form-of}
+use Rattle.numbers.specs.declared.Number.{Number}
+use Rattle.numbers.specs.declared.Reckoned.{Reckoned}
+use Rattle.numbers.specs.Forms.{whole, reckoned-gives, reckoned-refusal, in-range, convertible}
 
--- "other non-numeric is 12", and then 10
-abbrev pub by-form : (Whole → Res Bytes) → Form → Res Bytes
-by-form f (Form.Number x) = f (whole x)
-by-form f Form.TooLarge = refused 10
-by-form f Form.NotNumeric = refused 12
+-- a number and a refusal as the definitions have them; the refusal's number is passed up
+module _ {r : Reckoned} {v : Res Whole} (e : reckoned-gives r ≡ v) where
+  pub a-number : {x : Number} → r ≡ Reckoned.Number x → v ≡ given (whole x)
+  unfolding reckoned-gives
+  a-number f = sym e ∙ ap reckoned-gives f
+
+  pub passed-up : {n m : ℕ} → r ≡ Reckoned.Refused n → m ≡ reckoned-refusal r → v ≡ refused m
+  unfolding reckoned-gives
+  passed-up f k = sym e ∙ ap reckoned-gives f ∙ ap refused (sym (rw f at k))
+
+-- a number that was ranged is in range
+pub ranged-size : (x y : Whole) → given y ≡ ranged x → y .size ≤ number-most
+unfolding ranged
+ranged-size x y h = go (leb (x .size) number-most) refl h
+  where
+    go : (t : Bool) → leb (x .size) number-most ≡ t → given y ≡ (refuse out-of-range unless t >> given x) → y .size ≤ number-most
+    go true l e = let same : y ≡ x = cc in rw same (leb-true (x .size) number-most l)
+    go false l e = let z : _≡_ {A = ℕ} 0 1 = cc in absurd (omega arith)
+
+pub convertible-size : (o : Option Whole) (x : Whole) → convertible o ≡ given x → x .size ≤ number-most
+convertible-size none x h = let z : _≡_ {A = ℕ} 0 1 = cc in absurd (omega arith)
+convertible-size (some y) x h = ranged-size y x (sym h)
+
+-- the answers of `convertible`
+pub numeric-converts : (o : Option Whole) {v : Res Whole} → some v ≡ in-range o → v ≡ convertible o
+numeric-converts none h = cc
+numeric-converts (some x) h = cc
+
+pub other-refused : (o : Option Whole) → none ≡ in-range o → refused 12 ≡ convertible o
+other-refused none h = refl
+other-refused (some x) h = cc
 
 module _ (f : Whole → Res Bytes) where
   -- "empty stays empty"
@@ -27,19 +56,12 @@ module _ (f : Whole → Res Bytes) where
   empty-stays [] h = refl
   empty-stays (b ∷ bs) h = absurd (omega arith)
 
-  decided : (e : Bytes) → (length e ≡ 0 → ⊥) → number-gives f e ≡ by-form f (form-of (numeric e))
-  unfolding number-gives form-of ranged
-  decided [] h = absurd (h refl)
-  decided (b ∷ bs) h = go (numeric (b ∷ bs))
-    where
-      size : (t : Bool) (x : Whole) → ((refuse 10 unless t) >> given x >>= f) ≡ by-form f (if t then Form.Number (coded x) else Form.TooLarge)
-      size true x = refl
-      size false x = refl
-
-      go : (o : Option Whole) → on-number f o ≡ by-form f (form-of o)
-      go none = refl
-      go (some x) = size (leb (x .size) number-most) x
-
   -- any other element
-  pub form-decides : (e : Bytes) {r : Form} → (length e ≡ 0 → ⊥) → r ≡ form-of (numeric e) → number-gives f e ≡ by-form f r
-  form-decides e h k = decided e h ∙ ap (by-form f) (sym k)
+  pub converts : (e : Bytes) {v : Res Whole} → (length e ≡ 0 → ⊥) → convertible (numeric e) ≡ v → number-gives f e ≡ (v >>= f)
+  unfolding number-gives
+  converts [] h k = absurd (h refl)
+  converts (b ∷ bs) h k = go (numeric (b ∷ bs)) ∙ ap (λ (v : Res Whole). v >>= f) k
+    where
+      go : (o : Option Whole) → on-number f o ≡ (convertible o >>= f)
+      go none = refl
+      go (some x) = refl

@@ -1,22 +1,24 @@
 -- Operands, and arithmetic on a sign and a size, against the definitions. Assumes nothing.
 use mathlib.Core.Path.{_≡_, refl, sym, ap, _∙_}
 use mathlib.Core.Bool.{Bool, true, false}
+use mathlib.Core.Option.{Option, none, some}
 use Prim.Native.Nat.{ℕ, _+_, _-_, _*_, _/_, _^_, _≤_, _<_}
 use native.Mathlib.Nat.{mul-comm, div-lt-iff-lt-mul}
 use native.Mathlib.Omega.{arith}
-use lib.Dec.{leb, ltb, eqb}
-use borrow.Author.Tests.{le-leb, lt-leb, lt-ltb, le-ltb, ltb-true, eq-eqb, ne-eqb, leb-true}
+use lib.Dec.{ltb, eqb}
+use borrow.Author.Tests.{le-leb, lt-leb, lt-ltb, le-ltb, ltb-true, eq-eqb, ne-eqb}
 use Rattle.paper.specs.Bytes.{Bytes}
 use Rattle.paper.specs.Sizes.{number-most}
-use Rattle.paper.specs.Refusals.{Res, given, refused, _>>=_, _>>_, refuse_unless_, refuse_when_, out-of-range, zero-divisor}
+use Rattle.paper.specs.Refusals.{Res, given, refused, _>>=_, _>>_, refuse_when_, zero-divisor}
 use Rattle.paper.specs.Numbers.{
   Number as Whole,
   signed,
   natural,
-  numeric,
   ranged,
+  or-zero,
   number,
   number-text,
+  differ,
   plus,
   negated,
   times,
@@ -27,34 +29,20 @@ use Rattle.paper.specs.Numbers.{
 use Rattle.codes.specs.declared.Arithmetic.{Arithmetic}
 use Rattle.codes.specs.Meaning.{arithmetic-of}
 use Rattle.numbers.specs.declared.Number.{Number}
-use Rattle.numbers.specs.declared.Form.{Form}
 use Rattle.numbers.specs.declared.Reckoned.{Reckoned}
-use Rattle.numbers.specs.Forms.{whole, form-of}
-use Rattle.numbers.specs.Reckonings.{reckoned-gives, over, reckoning, calculation}
-use Rattle.numbers.specs.Scans.{differ}
-use Rattle.numbers.proofs.ReadingLaws.{number-form, large-form, no-form}
+use Rattle.numbers.specs.Forms.{whole, reckoned-gives, in-range}
+use Rattle.numbers.specs.Reckonings.{over, reckoning, calculation}
+use Rattle.numbers.proofs.FormLaws.{ranged-size}
 
 -- an operand by its form
-module _ (s : Bytes) where
-  pub number-operand : (x : Number) → form-of (numeric s) ≡ Form.Number x → reckoned-gives (Reckoned.Number x) ≡ number s
-  unfolding reckoned-gives number ranged
-  number-operand x e = let f = number-form (numeric s) x e in rw (f .0, le-leb (x .size) number-most (f .1))
+pub numeric-operand : (o : Option Whole) {v : Res Whole} → some v ≡ in-range o → v ≡ ranged (or-zero o)
+numeric-operand none h = cc
+numeric-operand (some x) h = cc
 
-  pub large-operand : form-of (numeric s) ≡ Form.TooLarge → reckoned-gives (Reckoned.Refused 10) ≡ number s
-  unfolding reckoned-gives number ranged
-  large-operand e = let f = large-form (numeric s) e in rw (f .1, lt-leb (f .0 .size) number-most (f .2))
-
-  pub no-operand : form-of (numeric s) ≡ Form.NotNumeric → reckoned-gives (Reckoned.Number (record { negative = false; size = 0 })) ≡ number s
-  unfolding reckoned-gives number ranged natural
-  no-operand e = rw (no-form (numeric s) e)
-
-pub in-range : (x : Number) → x .size ≤ number-most → reckoned-gives (Reckoned.Number x) ≡ ranged (whole x)
-unfolding reckoned-gives ranged
-in-range x h = rw (le-leb (x .size) number-most h)
-
-pub beyond-range : (x : Number) → number-most < x .size → reckoned-gives (Reckoned.Refused 10) ≡ ranged (whole x)
-unfolding reckoned-gives ranged
-beyond-range x h = rw (lt-leb (x .size) number-most h)
+pub other-operand : (o : Option Whole) → none ≡ in-range o → given (natural 0) ≡ ranged (or-zero o)
+unfolding ranged natural
+other-operand none h = refl
+other-operand (some x) h = cc
 
 -- by the signs of both
 module _ (x y : Whole) where
@@ -148,43 +136,21 @@ product-passes a b h =
     same-test (number-most / a) b number-most (a * b) (λ l. rw (mul-comm a b) (div-lt-iff-lt-mul {k = a} (omega arith) .0 l))
     (λ l. div-lt-iff-lt-mul {k = a} (omega arith) .1 (rw (mul-comm a b) at l))
 
--- what a number in range and a refusal say of a range
-ranged-refusal : (x : Whole) (n : ℕ) → refused n ≡ ranged x → n ≡ out-of-range
-unfolding ranged
-ranged-refusal x n h = go (leb (x .size) number-most) h
-  where
-    go : (t : Bool) → refused n ≡ (refuse out-of-range unless t >> given x) → n ≡ out-of-range
-    go true e = cc
-    go false e = cc
-
-ranged-size : (x y : Whole) → given y ≡ ranged x → y .size ≤ number-most
-unfolding ranged
-ranged-size x y h = go (leb (x .size) number-most) refl h
-  where
-    go : (t : Bool) → leb (x .size) number-most ≡ t → given y ≡ (refuse out-of-range unless t >> given x) → y .size ≤ number-most
-    go true l e = let same : y ≡ x = cc in rw same (leb-true (x .size) number-most l)
-    go false l e = let z : _≡_ {A = ℕ} 0 1 = cc in absurd (omega arith)
-
--- an operand's number is in range, and its refusal is 10
-module _ (s : Bytes) where
-  pub operand-size : (x : Number) → reckoned-gives (Reckoned.Number x) ≡ number s → x .size ≤ number-most
-  unfolding reckoned-gives number
-  operand-size x h = ranged-size _ (whole x) h
-
-  pub operand-refusal : (n : ℕ) → reckoned-gives (Reckoned.Refused n) ≡ number s → refused out-of-range ≡ number s
-  unfolding reckoned-gives number
-  operand-refusal n h = ap refused (sym (ranged-refusal _ n h)) ∙ h
+-- an operand's number is in range
+pub operand-size : (s : Bytes) (x : Number) → reckoned-gives (Reckoned.Number x) ≡ number s → x .size ≤ number-most
+unfolding reckoned-gives number
+operand-size s x h = ranged-size _ (whole x) h
 
 -- both operands, the second entry's first
 module _ (op : Arithmetic) (s t : Bytes) where
-  pub second-refused : (n : ℕ) → reckoned-gives (Reckoned.Refused n) ≡ number s → reckoned-gives (Reckoned.Refused 10) ≡ calculation op s t
+  pub second-refused : (n : ℕ) {r : Reckoned} → r ≡ Reckoned.Refused n → reckoned-gives r ≡ number s → reckoned-gives r ≡ calculation op s t
   unfolding reckoned-gives calculation
-  second-refused n h = rw (← operand-refusal s n h)
+  second-refused n f h = rw (← h, f)
 
-  pub top-refused : (x : Number) (n : ℕ) → reckoned-gives (Reckoned.Number x) ≡ number s → reckoned-gives (Reckoned.Refused n) ≡ number t
-      → reckoned-gives (Reckoned.Refused 10) ≡ calculation op s t
+  pub top-refused : (x : Number) (n : ℕ) {r : Reckoned} → reckoned-gives (Reckoned.Number x) ≡ number s → r ≡ Reckoned.Refused n
+      → reckoned-gives r ≡ number t → reckoned-gives r ≡ calculation op s t
   unfolding reckoned-gives calculation
-  top-refused x n h k = rw (← h, ← operand-refusal t n k)
+  top-refused x n h f k = rw (← h, ← k, f)
 
   pub both-numbers : (x y : Number) → reckoned-gives (Reckoned.Number x) ≡ number s → reckoned-gives (Reckoned.Number y) ≡ number t
       → reckoning op (whole x) (whole y) ≡ calculation op s t

@@ -1,11 +1,15 @@
--- Any two outcomes that the contract of a public function allows are equal: result, and every byte of a lent buffer. Assumes nothing.
+-- Any two outcomes that a contract of this crate allows are equal: result, and every byte of a lent buffer. Assumes nothing.
 use mathlib.Core.Path.{_≡_, sym, ap, _∙_}
+use Rattle.paper.specs.Numbers.{Number as Whole}
+use Rattle.numbers.specs.declared.Number.{Number}
+use Rattle.numbers.specs.declared.Reckoned.{Reckoned}
 use Rattle.numbers.specs.declared.Order.{Order}
 use Rattle.numbers.specs.declared.Compared.{Compared}
-use Rattle.numbers.specs.Forms.{coded}
+use Rattle.numbers.specs.Forms.{whole, coded, reckoned-gives}
 use Rattle.numbers.specs.Orders.{order-of, compared-gives}
 use Rattle.numbers.proofs.Number.signed.Reads as signed
-use Rattle.numbers.proofs.reading.form.Reads as form
+use Rattle.numbers.proofs.Reckoned.refusal.Reads as refusal
+use Rattle.numbers.proofs.reading.convertible.Reads as convertible
 use Rattle.numbers.proofs.writing.power.Reads as power
 use Rattle.numbers.proofs.writing.digits.Reads as digits
 use Rattle.numbers.proofs.writing.decimal.Reads as decimal
@@ -16,6 +20,14 @@ use Rattle.numbers.proofs.entries.substring.Reads as substring
 use contract.Lifetimes.{Lfts}
 
 -- each case of an answer has its own value in the definitions
+same-reckoned : (r r′ : Reckoned) → reckoned-gives r ≡ reckoned-gives r′ → r ≡ r′
+unfolding reckoned-gives
+same-reckoned (Reckoned.Number x) (Reckoned.Number y) h =
+    let same : whole x ≡ whole y = cc in ap (λ (z : Whole). Reckoned.Number (coded z)) same
+same-reckoned (Reckoned.Number x) (Reckoned.Refused n) h = cc
+same-reckoned (Reckoned.Refused m) (Reckoned.Number y) h = cc
+same-reckoned (Reckoned.Refused m) (Reckoned.Refused n) h = cc
+
 same-order : (o o′ : Order) → order-of o ≡ order-of o′ → o ≡ o′
 unfolding order-of
 same-order Order.Less = elim [ Order.Less ↦ λ h. cc | Order.Same ↦ λ h. cc | Order.More ↦ λ h. cc ]
@@ -33,8 +45,11 @@ same-compared (Compared.Refused m) (Compared.Refused n) h = cc
 signed-settled : (κs : Lfts 0) (a : _) (r r′ : _) (e e′ : _) → signed.Post κs a r e → signed.Post κs a r′ e′ → r ≡ r′
 signed-settled κs a r r′ e e′ p q = ap coded (p ∙ sym q)
 
-form-settled : (κs : Lfts 1) (a : _) (r r′ : _) (e e′ : _) → form.Post κs a r e → form.Post κs a r′ e′ → r ≡ r′
-form-settled κs a r r′ e e′ p q = p ∙ sym q
+convertible-settled : (κs : Lfts 1) (a : _) (r r′ : _) (e e′ : _) → convertible.Post κs a r e → convertible.Post κs a r′ e′ → r ≡ r′
+convertible-settled κs a r r′ e e′ p q = same-reckoned r r′ (p ∙ sym q)
+
+refusal-settled : (κs : Lfts 0) (a : _) (r r′ : _) (e e′ : _) → refusal.Post κs a r e → refusal.Post κs a r′ e′ → r ≡ r′
+refusal-settled κs a r r′ e e′ p q = p ∙ sym q
 
 power-settled : (κs : Lfts 0) (a : _) (r r′ : _) (e e′ : _) → power.Post κs a r e → power.Post κs a r′ e′ → r ≡ r′
 power-settled κs a r r′ e e′ p q = p ∙ sym q

@@ -1,16 +1,10 @@
--- The paper's value for each case of a reckoning, and what reckoning gives before it is text: proof furniture.
+-- What reckoning gives before it is text: proof furniture.
 use Prim.Native.Nat.{_^_}
 use lib.Dec.{eqb}
 use Rattle.paper.specs.Bytes.{Bytes}
-use Rattle.paper.specs.Refusals.{Res, given, refused, _>>=_, _>>_, refuse_when_, zero-divisor}
+use Rattle.paper.specs.Refusals.{Res, _>>=_, _>>_, refuse_when_, zero-divisor}
 use Rattle.paper.specs.Numbers.{Number as Whole, natural, ranged, number, plus, negated, times, quotient, remainder}
 use Rattle.codes.specs.declared.Arithmetic.{Arithmetic}
-use Rattle.numbers.specs.declared.Reckoned.{Reckoned}
-use Rattle.numbers.specs.Forms.{whole}
-
-unfoldable pub reckoned-gives : Reckoned → Res Whole
-reckoned-gives (Reckoned.Number x) = given (whole x)
-reckoned-gives (Reckoned.Refused n) = refused n
 
 -- a number over another: "Range comes before 11."
 unfoldable pub over : (Whole → Whole → Whole) → Whole → Whole → Res Whole

@@ -3,37 +3,45 @@ use crate::Compared;
 use crate::Form;
 use crate::Number;
 use crate::Order;
+use crate::Reckoned;
 use crate::reading;
 use codes::Relation;
 ghost use mathlib.Core.Path.{_≡_};
 ghost use lib.Dec.{ltb};
-ghost use Rattle.paper.specs.Numbers.{below, compared, holds};
+ghost use Rattle.paper.specs.Numbers.{below, order-by, compared, holds};
 ghost use Rattle.codes.specs.Meaning.{relation-of};
-ghost use Rattle.numbers.specs.Forms.{whole};
-ghost use Rattle.numbers.specs.Orders.{order-of, compared-gives};
-ghost use Rattle.numbers.specs.Scans.{by-test, bytes-order, rank-of};
+ghost use Rattle.numbers.specs.Forms.{whole, reckoned-gives};
+ghost use Rattle.numbers.specs.Orders.{order-of, compared-gives, numbers-order, bytes-order};
+ghost use Rattle.numbers.specs.Scans.{rank-of};
 
 // "Relations (001, 4.5) read second against top: as numbers when both have numeric form, else by bytes"
-pub fn compare(second: &[u8], top: &[u8]) -> Compared
+pub(crate) fn compare(second: &[u8], top: &[u8]) -> Compared
     ensures { λ r. ⌜ compared-gives r ≡ compared (now (second .entry)) (now (top .entry)) ⌝ }
 {
-    match reading::form(second) {
-        Form::NotNumeric => Compared::Ordered(compare_bytes(second, top)),
-        Form::TooLarge => match reading::form(top) {
-            Form::NotNumeric => Compared::Ordered(compare_bytes(second, top)),
-            Form::TooLarge => Compared::Refused(paper::refusal::OUT_OF_RANGE),
-            Form::Number(_) => Compared::Refused(paper::refusal::OUT_OF_RANGE),
-        },
-        Form::Number(x) => match reading::form(top) {
-            Form::NotNumeric => Compared::Ordered(compare_bytes(second, top)),
-            Form::TooLarge => Compared::Refused(paper::refusal::OUT_OF_RANGE),
-            Form::Number(y) => Compared::Ordered(compare_numbers(x, y)),
-        },
-    }
+    let Form::Numeric(left) = reading::form(second) else {
+        return Compared::Ordered(compare_bytes(second, top));
+    };
+    let Form::Numeric(right) = reading::form(top) else {
+        return Compared::Ordered(compare_bytes(second, top));
+    };
+    compare_forms(left, right)
+}
+
+// two in numeric form: "out of range is 10 wherever it is read as a number"
+fn compare_forms(left: Reckoned, right: Reckoned) -> Compared
+    ensures { λ r. ⌜ compared-gives r ≡ numbers-order (reckoned-gives left) (reckoned-gives right) ⌝ }
+{
+    let Reckoned::Number(x) = left else {
+        return Compared::Refused(left.refusal());
+    };
+    let Reckoned::Number(y) = right else {
+        return Compared::Refused(right.refusal());
+    };
+    Compared::Ordered(compare_numbers(x, y))
 }
 
 fn compare_numbers(x: Number, y: Number) -> Order
-    ensures { λ r. ⌜ r ≡ by-test (below (whole x) (whole y)) (below (whole y) (whole x)) ⌝ }
+    ensures { λ r. ⌜ order-of r ≡ order-by (below (whole x) (whole y)) (below (whole y) (whole x)) ⌝ }
 {
     if below(x, y) {
         return Order::Less;
@@ -56,7 +64,7 @@ fn below(x: Number, y: Number) -> bool
 
 // "else by bytes, a prefix being smaller"
 fn compare_bytes(second: &[u8], top: &[u8]) -> Order
-    ensures { λ r. ⌜ r ≡ bytes-order (now (second .entry)) (now (top .entry)) ⌝ }
+    ensures { λ r. ⌜ order-of r ≡ bytes-order (now (second .entry)) (now (top .entry)) ⌝ }
 {
     let mut i = 0;
     while i < second.len() {
@@ -74,7 +82,7 @@ fn compare_bytes(second: &[u8], top: &[u8]) -> Order
 }
 
 fn order(a: usize, b: usize) -> Order
-    ensures { λ r. ⌜ r ≡ by-test (ltb a b) (ltb b a) ⌝ }
+    ensures { λ r. ⌜ order-of r ≡ order-by (ltb a b) (ltb b a) ⌝ }
 {
     if a < b {
         return Order::Less;

@@ -16,12 +16,12 @@ ghost use lib.ListN.{length, take, drop};
 ghost use Rattle.paper.specs.Sizes.{number-digits, entry-most};
 ghost use Rattle.paper.specs.Refusals.{given};
 ghost use Rattle.paper.specs.Answers.{given-of, written};
-ghost use Rattle.paper.specs.Numbers.{concatenate, relate, binary-gives, substring-gives};
+ghost use Rattle.paper.specs.Numbers.{concatenate, relate, binary-gives, skipped, taken, substring-gives};
 ghost use Rattle.paper.specs.Steps.{limited};
 ghost use Rattle.codes.specs.Meaning.{relation-of, arithmetic-of, operator-of};
 ghost use Rattle.numbers.specs.Forms.{whole};
 ghost use Rattle.numbers.specs.Operators.{scales, scale-of};
-ghost use Rattle.numbers.specs.Scans.{truth-byte, skips, takes};
+ghost use Rattle.numbers.specs.Scans.{truth-byte};
 
 // What the second entry and the top give, at the front of `out`.
 pub fn binary(op: Operator, second: &[u8], top: &[u8], out: &mut [u8]) -> Given
@@ -42,10 +42,11 @@ fn compute(op: Arithmetic, second: &[u8], top: &[u8], out: &mut [u8]) -> Given
     ensures { λ r. ⌜ r ≡ given-of (limited entry-most (binary-gives (arithmetic-of op) (now (second .entry)) (now (top .entry)))) ⌝ }
     ensures { λ _. ⌜ now (out .exit) ≡ written (now (out .entry)) (limited entry-most (binary-gives (arithmetic-of op) (now (second .entry)) (now (top .entry)))) ⌝ }
 {
-    match reckoning::calculate(op, second, top) {
-        Reckoned::Number(x) => Given::Length(writing::text(x, out)),
-        Reckoned::Refused(n) => Given::Refused(n),
-    }
+    let reckoned = reckoning::calculate(op, second, top);
+    let Reckoned::Number(x) = reckoned else {
+        return Given::Refused(reckoned.refusal());
+    };
+    Given::Length(writing::text(x, out))
 }
 
 // "`:` puts top after second."
@@ -70,8 +71,9 @@ fn relate(relation: Relation, second: &[u8], top: &[u8], out: &mut [u8]) -> Give
     ensures { λ r. ⌜ r ≡ given-of (limited entry-most (binary-gives (relate (relation-of relation)) (now (second .entry)) (now (top .entry)))) ⌝ }
     ensures { λ _. ⌜ now (out .exit) ≡ written (now (out .entry)) (limited entry-most (binary-gives (relate (relation-of relation)) (now (second .entry)) (now (top .entry)))) ⌝ }
 {
-    let Compared::Ordered(order) = comparing::compare(second, top) else {
-        return Given::Refused(paper::refusal::OUT_OF_RANGE);
+    let compared = comparing::compare(second, top);
+    let Compared::Ordered(order) = compared else {
+        return Given::Refused(compared.refusal());
     };
     out[0] = truth(comparing::holds(relation, order));
     Given::Length(1)
@@ -89,11 +91,13 @@ pub fn substring(third: &[u8], second: &[u8], top: &[u8], out: &mut [u8]) -> Giv
     ensures { λ r. ⌜ r ≡ given-of (limited entry-most (substring-gives (now (third .entry)) (now (second .entry)) (now (top .entry)))) ⌝ }
     ensures { λ _. ⌜ now (out .exit) ≡ written (now (out .entry)) (limited entry-most (substring-gives (now (third .entry)) (now (second .entry)) (now (top .entry)))) ⌝ }
 {
-    let Reckoned::Number(start) = reckoning::operand(second) else {
-        return Given::Refused(paper::refusal::OUT_OF_RANGE);
+    let from = reckoning::operand(second);
+    let Reckoned::Number(start) = from else {
+        return Given::Refused(from.refusal());
     };
-    let Reckoned::Number(count) = reckoning::operand(top) else {
-        return Given::Refused(paper::refusal::OUT_OF_RANGE);
+    let size = reckoning::operand(top);
+    let Reckoned::Number(count) = size else {
+        return Given::Refused(size.refusal());
     };
     cut(third, start, count, out)
 }
@@ -101,8 +105,8 @@ pub fn substring(third: &[u8], second: &[u8], top: &[u8], out: &mut [u8]) -> Giv
 // From a start as many bytes as a length says, fewer if the entry ends.
 fn cut(third: &[u8], start: Number, count: Number, out: &mut [u8]) -> Given
     requires { ⌜ entry-most ≤ length (now out) ⌝ }
-    ensures { λ r. ⌜ r ≡ given-of (limited entry-most (given (take (takes (whole count)) (drop (skips (whole start)) (now (third .entry)))))) ⌝ }
-    ensures { λ _. ⌜ now (out .exit) ≡ written (now (out .entry)) (limited entry-most (given (take (takes (whole count)) (drop (skips (whole start)) (now (third .entry)))))) ⌝ }
+    ensures { λ r. ⌜ r ≡ given-of (limited entry-most (given (take (taken (whole count)) (drop (skipped (whole start)) (now (third .entry)))))) ⌝ }
+    ensures { λ _. ⌜ now (out .exit) ≡ written (now (out .entry)) (limited entry-most (given (take (taken (whole count)) (drop (skipped (whole start)) (now (third .entry)))))) ⌝ }
 {
     let from = least(skipped(start), third.len());
     let size = least(taken(count), third.len() - from);
@@ -116,7 +120,7 @@ fn cut(third: &[u8], start: Number, count: Number, out: &mut [u8]) -> Given
 
 // the bytes before a start
 fn skipped(x: Number) -> u64
-    ensures { λ r. ⌜ r ≡ skips (whole x) ⌝ }
+    ensures { λ r. ⌜ r ≡ skipped (whole x) ⌝ }
 {
     if x.negative {
         return 0;
@@ -129,7 +133,7 @@ fn skipped(x: Number) -> u64
 
 // the bytes of a length
 fn taken(x: Number) -> u64
-    ensures { λ r. ⌜ r ≡ takes (whole x) ⌝ }
+    ensures { λ r. ⌜ r ≡ taken (whole x) ⌝ }
 {
     if x.negative { 0 } else { x.size }
 }

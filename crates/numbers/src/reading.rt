@@ -1,20 +1,30 @@
-// Numeric form and its value: `form` alone decides what has numeric form.
+// Numeric form and its value: `form` alone decides what has numeric form, `ranged` alone what is in range.
 use crate::Form;
 use crate::MOST;
 use crate::Number;
-ghost use mathlib.Core.Option.{some};
+use crate::Reckoned;
 ghost use mathlib.Core.Path.{_≡_};
 ghost use Prim.Native.Nat.{_+_, _*_, _≤_, min};
 ghost use lib.ListN.{length, drop};
 ghost use Rattle.paper.specs.Bytes.{digit-value};
 ghost use Rattle.paper.specs.Sizes.{number-most};
-ghost use Rattle.paper.specs.Numbers.{signed, value, numeric};
-ghost use Rattle.numbers.specs.Forms.{form-of};
-ghost use Rattle.numbers.specs.Scans.{value-form, digits-form};
+ghost use Rattle.paper.specs.Numbers.{value, digits-alone, numeric, ranged};
+ghost use Rattle.numbers.specs.Forms.{whole, reckoned-gives, form-gives, in-range, convertible};
+ghost use Rattle.numbers.specs.Scans.{value-form};
+
+// What ML, MR and D convert: "other non-numeric is 12"
+pub fn convertible(e: &[u8]) -> Reckoned
+    ensures { λ r. ⌜ reckoned-gives r ≡ convertible (numeric (now (e .entry))) ⌝ }
+{
+    let Form::Numeric(value) = form(e) else {
+        return Reckoned::Refused(paper::refusal::NOT_CONVERTIBLE);
+    };
+    value
+}
 
 // "Numeric form: an optional `+` or `-`, then one or more digits."
-pub fn form(s: &[u8]) -> Form
-    ensures { λ r. ⌜ r ≡ form-of (numeric (now (s .entry))) ⌝ }
+pub(crate) fn form(s: &[u8]) -> Form
+    ensures { λ r. ⌜ form-gives r ≡ in-range (numeric (now (s .entry))) ⌝ }
 {
     if s.len() == 0 {
         return Form::NotNumeric;
@@ -29,7 +39,7 @@ pub fn form(s: &[u8]) -> Form
 // "then one or more digits": what stands from `at` on
 fn digits_alone(s: &[u8], at: usize, negative: bool) -> Form
     requires { ⌜ at ≤ length (now s) ⌝ }
-    ensures { λ r. ⌜ r ≡ digits-form negative (drop at (now (s .entry))) ⌝ }
+    ensures { λ r. ⌜ form-gives r ≡ in-range (digits-alone negative (drop at (now (s .entry)))) ⌝ }
 {
     if at == s.len() {
         return Form::NotNumeric;
@@ -40,7 +50,7 @@ fn digits_alone(s: &[u8], at: usize, negative: bool) -> Form
 // the value of the digits from `at` on
 fn value_from(s: &[u8], at: usize, negative: bool) -> Form
     requires { ⌜ at ≤ length (now s) ⌝ }
-    ensures { λ r. ⌜ r ≡ value-form negative (value 0 (drop at (now (s .entry)))) ⌝ }
+    ensures { λ r. ⌜ form-gives r ≡ value-form negative (value 0 (drop at (now (s .entry)))) ⌝ }
 {
     let mut size: u64 = 0;
     let mut i = at;
@@ -53,7 +63,7 @@ fn value_from(s: &[u8], at: usize, negative: bool) -> Form
         size = raised(size, b);
         i += 1;
     }
-    sized(negative, size)
+    Form::Numeric(ranged(Number::signed(negative, size)))
 }
 
 // one digit more; a size over the limit stays just over it, however many digits follow
@@ -65,12 +75,12 @@ fn raised(size: u64, b: u8) -> u64
     if next <= MOST { next } else { MOST + 1 }
 }
 
-// a sign and a size; zero has no sign
-fn sized(negative: bool, size: u64) -> Form
-    ensures { λ r. ⌜ r ≡ form-of (some (signed negative size)) ⌝ }
+// a number in range, or 10
+pub(crate) fn ranged(x: Number) -> Reckoned
+    ensures { λ r. ⌜ reckoned-gives r ≡ ranged (whole x) ⌝ }
 {
-    if MOST < size {
-        return Form::TooLarge;
+    if MOST < x.size {
+        return Reckoned::Refused(paper::refusal::OUT_OF_RANGE);
     }
-    Form::Number(Number::signed(negative, size))
+    Reckoned::Number(x)
 }

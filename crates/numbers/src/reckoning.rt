@@ -4,41 +4,30 @@ use crate::MOST;
 use crate::Number;
 use crate::Reckoned;
 use crate::reading;
+use crate::reading::ranged;
 use crate::writing;
 use codes::Arithmetic;
 ghost use mathlib.Core.Path.{_≡_};
 ghost use Prim.Native.Nat.{_*_, _≤_, _<_};
 ghost use lib.Dec.{ltb};
 ghost use Rattle.paper.specs.Sizes.{number-digits, number-most};
-ghost use Rattle.paper.specs.Numbers.{number, ranged, plus, negated, quotient, remainder};
+ghost use Rattle.paper.specs.Numbers.{number, differ, plus, negated, quotient, remainder};
 ghost use Rattle.codes.specs.declared.Arithmetic.the-variants.{Multiply, Divide, Rest, Add, Subtract};
-ghost use Rattle.numbers.specs.Forms.{whole};
+ghost use Rattle.numbers.specs.Forms.{whole, reckoned-gives};
 ghost use Rattle.numbers.specs.Operators.{scales};
-ghost use Rattle.numbers.specs.Reckonings.{reckoned-gives, reckoning, calculation};
-ghost use Rattle.numbers.specs.Scans.{differ};
+ghost use Rattle.numbers.specs.Reckonings.{reckoning, calculation};
 
 // "Arithmetic, start and length take other strings, the empty one included, as 0."
 pub(crate) fn operand(s: &[u8]) -> Reckoned
     ensures { λ r. ⌜ reckoned-gives r ≡ number (now (s .entry)) ⌝ }
 {
-    match reading::form(s) {
-        Form::Number(x) => Reckoned::Number(x),
-        Form::TooLarge => Reckoned::Refused(paper::refusal::OUT_OF_RANGE),
-        Form::NotNumeric => Reckoned::Number(Number {
+    let Form::Numeric(value) = reading::form(s) else {
+        return Reckoned::Number(Number {
             negative: false,
             size: 0,
-        }),
-    }
-}
-
-// a number in range, or 10
-fn ranged(x: Number) -> Reckoned
-    ensures { λ r. ⌜ reckoned-gives r ≡ ranged (whole x) ⌝ }
-{
-    if x.size <= MOST {
-        return Reckoned::Number(x);
-    }
-    Reckoned::Refused(paper::refusal::OUT_OF_RANGE)
+        });
+    };
+    value
 }
 
 fn differ(a: bool, b: bool) -> bool
@@ -149,11 +138,13 @@ pub(crate) fn calculate(op: Arithmetic, second: &[u8], top: &[u8]) -> Reckoned
     requires { ⌜ scales op ≤ number-digits ⌝ }
     ensures { λ r. ⌜ reckoned-gives r ≡ calculation op (now (second .entry)) (now (top .entry)) ⌝ }
 {
-    let Reckoned::Number(x) = operand(second) else {
-        return Reckoned::Refused(paper::refusal::OUT_OF_RANGE);
+    let left = operand(second);
+    let Reckoned::Number(x) = left else {
+        return left;
     };
-    let Reckoned::Number(y) = operand(top) else {
-        return Reckoned::Refused(paper::refusal::OUT_OF_RANGE);
+    let right = operand(top);
+    let Reckoned::Number(y) = right else {
+        return right;
     };
     reckon(op, x, y)
 }

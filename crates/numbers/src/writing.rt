@@ -80,7 +80,7 @@ pub fn decimal(n: u64, out: &mut [u8], at: usize) -> usize
 }
 
 // "Results have no leading zeros and no `+`.": a number's text, at the front
-pub fn text(x: Number, out: &mut [u8]) -> usize
+pub(crate) fn text(x: Number, out: &mut [u8]) -> usize
     requires { ⌜ (x .size ≤ number-most) × (number-digits + 1 ≤ length (now out)) ⌝ }
     ensures { λ r. ⌜ r ≡ length (number-text (whole x)) ⌝ }
     ensures { λ _. ⌜ now (out .exit) ≡ number-text (whole x) ++ drop (length (number-text (whole x))) (now (out .entry)) ⌝ }

@@ -3,7 +3,7 @@ use mathlib.Core.Path.{_≡_, refl, _∙_}
 use Prim.Native.Nat.{_-_, _≤_}
 use native.Mathlib.Omega.{arith}
 use lib.ListN.{length, drop}
-use Rattle.numbers.specs.Scans.{bytes-order}
+use Rattle.numbers.specs.Orders.{order-of, bytes-order}
 use Rattle.numbers.proofs.ComparingLaws.{same-byte, other-byte, longer, ended}
 use Rattle.numbers.proofs.comparing.compare_bytes.Statement.{statement}
 use Rattle.numbers.proofs.comparing.compare_bytes.Tie as tie
@@ -16,6 +16,7 @@ abbrev μ-loop : tie.MeasureT-loop
 μ-loop second top i₀ i = length second - i
 
 returns : tie.Need-returns Inv-loop μ-loop
+unfolding order-of
 returns c =
     let l = c .before .before in
     let a = l .before .before .before .args in

@@ -9,7 +9,7 @@ use Rattle.numbers.proofs.entries.concatenate.Tie as tie
 returns : tie.Need-returns
 unfolding entry-most
 returns c =
-    let a = c .before .before .before .before .args in
+    let a = c .before .before .before .before .before .args in
     too-long (a .second .now) (a .top .now) (a .out .now) (c .if1 .taken)
 
 copy-in-requires : tie.Need-copy-in-requires
@@ -26,7 +26,7 @@ returns-2 c =
     let k = c .before .before in
     let j = k .before .before .before .before in
     let i = j .before .before in
-    let a = i .before .before .before .before .args in
+    let a = i .before .before .before .before .before .args in
     put-after (a .second .now) (a .top .now) (a .out .now) _ (j .copy-in .last .1 .0) (k .copy-in2 .last .1 .0) (i .if1 .left) refl (j .copy-in .ensures)
     (k .copy-in2 .ensures)
 

@@ -4,17 +4,17 @@ use native.Mathlib.Omega.{arith}
 use borrow.Author.Needs.{needs}
 use Rattle.numbers.specs.Orders.{compared-gives}
 use Rattle.numbers.specs.Scans.{truth-byte}
+use Rattle.numbers.proofs.ComparingLaws.{compared-passes}
 use Rattle.numbers.proofs.EntryLaws.{text-room, related, unrelated}
 use Rattle.numbers.proofs.entries.relate.Statement.{statement}
 use Rattle.numbers.proofs.entries.relate.Tie as tie
 
 returns : tie.Need-returns
 returns c =
-    let k = c .before .before in
+    let k = c .before .before .before in
     let a = k .before .before .before .before .args in
-    let told = c .enum-told .given in
-    unrelated (a .relation) (a .second .now) (a .top .now) (a .out .now) (told .0 .0)
-    (ap compared-gives (sym (told .1)) ∙ k .compare .ensures)
+    unrelated (a .relation) (a .second .now) (a .top .now) (a .out .now) (c .refusal .result)
+    (compared-passes (k .compare .ensures) (c .before .enum-told .given .1) (c .refusal .ensures))
 
 slice-write-out : tie.Need-slice-write-out
 slice-write-out c = omega (arith, text-room, c .before .before .before .before .before .before .before .before .before .pre)
@@ -24,8 +24,8 @@ returns-2 c =
     let o = c .before .before .before in
     let k = o .before .before in
     let a = k .before .before .before .before in
-    related (a .args .relation) (a .args .second .now) (a .args .top .now) (a .args .out .now) (o .order .given .0 .0) (c .truth .result)
-    (ap compared-gives (sym (o .order .given .1)) ∙ k .compare .ensures) (c .truth .ensures ∙ ap truth-byte (c .before .holds .ensures)) (a .pre)
+    related (a .args .relation) (a .args .second .now) (a .args .top .now) (a .args .out .now) (o .compared .given .0 .0) (c .truth .result)
+    (ap compared-gives (sym (o .compared .given .1)) ∙ k .compare .ensures) (c .truth .ensures ∙ ap truth-byte (c .before .holds .ensures)) (a .pre)
 
 pub relate-spec : {M : Type 1} → statement M
 relate-spec =
@@ -34,6 +34,7 @@ relate-spec =
     (λ c κs. search needs)
     (λ c. search needs)
     (λ c. search needs)
+    (λ c κs. search needs)
     returns
     (λ c κs. search needs)
     (λ c κs. search needs)

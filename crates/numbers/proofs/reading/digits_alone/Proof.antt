@@ -1,11 +1,13 @@
 -- `reading::digits_alone` meets its contract: no byte is no digits. Assumes nothing.
 use mathlib.Core.Path.{_∙_}
 use native.Mathlib.Omega.{arith}
+use Rattle.numbers.specs.Forms.{form-gives}
 use Rattle.numbers.proofs.ReadingLaws.{none-from, some-from}
 use Rattle.numbers.proofs.reading.digits_alone.Statement.{statement}
 use Rattle.numbers.proofs.reading.digits_alone.Tie as tie
 
 returns : tie.Need-returns
+unfolding form-gives
 returns c =
     let a = c .before .before .args in
     none-from (a .negative) (a .s .now) (a .at) (c .if1 .taken)

@@ -1,11 +1,13 @@
 -- `reading::form` meets its contract: a sign or none, and the digits after it. Assumes nothing.
 use mathlib.Core.Path.{_∙_}
 use native.Mathlib.Omega.{arith}
+use Rattle.numbers.specs.Forms.{form-gives}
 use Rattle.numbers.proofs.ReadingLaws.{no-bytes, after-minus, after-plus, no-sign}
 use Rattle.numbers.proofs.reading.form.Statement.{statement}
 use Rattle.numbers.proofs.reading.form.Tie as tie
 
 returns : tie.Need-returns
+unfolding form-gives
 returns c = no-bytes (c .before .before .args .s .now) (c .if1 .taken)
 
 returns-2 : tie.Need-returns-2

@@ -2,11 +2,13 @@
 -- Assumes nothing.
 use mathlib.Core.Path.{_≡_, refl, _∙_, ap}
 use mathlib.Core.Logic.{inl, inr}
+use mathlib.Core.Option.{some}
 use Prim.Native.Nat.{ℕ, _+_, _-_, _≤_}
 use native.Mathlib.Omega.{arith}
 use lib.ListN.{length, drop}
 use Rattle.paper.specs.Sizes.{number-most}
-use Rattle.paper.specs.Numbers.{value}
+use Rattle.paper.specs.Numbers.{value, ranged}
+use Rattle.numbers.specs.Forms.{form-gives}
 use Rattle.numbers.specs.Scans.{value-form}
 use Rattle.numbers.proofs.ReadingLaws.{digit-goes, other-ends, at-end}
 use Rattle.numbers.proofs.reading.value_from.Statement.{statement}
@@ -21,12 +23,14 @@ abbrev μ-loop : tie.MeasureT-loop
 μ-loop s at negative size₀ i₀ size i = length s - i
 
 returns : tie.Need-returns Inv-loop μ-loop
+unfolding form-gives
 returns c =
     let a = c .before .before .before .before .before .args in
     let l = c .before .before .before .loop in
     other-ends (a .negative) (a .s .now) (l .size) (l .i) (omega arith) (inl (omega arith)) ∙ l .inv .2
 
 returns-2 : tie.Need-returns-2 Inv-loop μ-loop
+unfolding form-gives
 returns-2 c =
     let a = c .before .before .before .before .before .before .args in
     let l = c .before .before .before .before .loop in
@@ -44,10 +48,13 @@ loop-again c =
     )
 
 returns-3 : tie.Need-returns-3 Inv-loop μ-loop
+unfolding form-gives
 returns-3 c =
-    let a = c .before .before .before .before .args in
-    let l = c .before .before .loop in
-    c .sized .ensures ∙ at-end (a .negative) (a .s .now) (l .size) (l .i) (c .before .loop-test .left) ∙ l .inv .2
+    let a = c .before .before .before .before .before .args in
+    let l = c .before .before .before .loop in
+    ap some (c .ranged .ensures ∙ ap ranged (c .before .signed .ensures))
+    ∙ at-end (a .negative) (a .s .now) (l .size) (l .i) (c .before .before .loop-test .left)
+    ∙ l .inv .2
 
 pub value-from-spec : {M : Type 1} → statement M
 value-from-spec =
@@ -63,5 +70,6 @@ value-from-spec =
     (λ c. omega arith)
     (λ c. omega arith)
     loop-again
+    (λ c κs. tt)
     (λ c κs. tt)
     returns-3)
