@@ -1,5 +1,5 @@
 -- What ML and MR give, case by case, and that no text is wider than 99: the limit on a result is never met. Assumes nothing.
-use mathlib.Core.Path.{_≡_, refl}
+use mathlib.Core.Path.{_≡_, refl, ap, _∙_}
 use mathlib.Core.Bool.{Bool, true, false, _&&_}
 use mathlib.Core.List.{[], _∷_, _++_}
 use mathlib.Core.Option.{Option, none, some}
@@ -18,7 +18,7 @@ use Rattle.paper.specs.Steps.{limited}
 use Rattle.paper.proofs.Predicates.{Holds, holds, refuses, holds-after}
 use Rattle.masks.specs.declared.scaling.Scaling.{Scaling}
 use Rattle.masks.specs.Bounds.{Bounded, field-width}
-use Rattle.masks.specs.Scaling.{scaling-of}
+use Rattle.masks.specs.Scaling.{scaling-of, scaling-refusal}
 use Rattle.masks.proofs.PieceLaws.{length-masked}
 
 -- two constructors are never one
@@ -34,17 +34,18 @@ in-range : (n m : ℕ) {r : Scaling} → r ≡ Scaling.Size n → r ≡ scaling-
 unfolding scaling-of
 in-range n m {r} found = go (leb m number-most) refl
   where
-    go : (t : Bool) → leb m number-most ≡ t → r ≡ (if t then Scaling.Size m else Scaling.TooLarge) → (n ≡ m) × (m ≤ number-most)
+    go : (t : Bool) → leb m number-most ≡ t → r ≡ (if t then Scaling.Size m else Scaling.Refused 10) → (n ≡ m) × (m ≤ number-most)
     go true h e = (cc, leb-true m number-most h)
     go false h e = never cc
 
-out-of-range : (m : ℕ) {r : Scaling} → r ≡ Scaling.TooLarge → r ≡ scaling-of m → number-most < m
+-- 10 is passed up
+outside : (m : ℕ) {r : Scaling} {k n : ℕ} → r ≡ Scaling.Refused k → n ≡ scaling-refusal r → r ≡ scaling-of m → (n ≡ 10) × (number-most < m)
 unfolding scaling-of
-out-of-range m {r} found = go (leb m number-most) refl
+outside m {r} {k} {n} found e = go (leb m number-most) refl
   where
-    go : (t : Bool) → leb m number-most ≡ t → r ≡ (if t then Scaling.Size m else Scaling.TooLarge) → number-most < m
-    go true h e = never cc
-    go false h e = leb-false m number-most h
+    go : (t : Bool) → leb m number-most ≡ t → r ≡ (if t then Scaling.Size m else Scaling.Refused 10) → (n ≡ 10) × (number-most < m)
+    go true h f = never cc
+    go false h f = (e ∙ ap scaling-refusal f, leb-false m number-most h)
 
 module _ (k : Mask) (x : Whole) where
   -- "Z turns an element of 0 into empty text, and into blanks under a mask of any fill"
@@ -57,9 +58,9 @@ module _ (k : Mask) (x : Whole) where
 
   module _ (e : k .blank-zero && eqb (x .size) 0 ≡ false) where
     -- 10 is tried on the scaled value
-    pub beyond : {r : Scaling} → r ≡ Scaling.TooLarge → r ≡ scaling-of (scaled-size k x) → number-masked k x ≡ refused 10
+    pub beyond : {r : Scaling} {m n : ℕ} → r ≡ Scaling.Refused m → n ≡ scaling-refusal r → r ≡ scaling-of (scaled-size k x) → number-masked k x ≡ refused n
     unfolding number-masked ranged scaled signed
-    beyond found h = rw (e, lt-leb (scaled-size k x) number-most (out-of-range (scaled-size k x) found h))
+    beyond found f h = let out = outside (scaled-size k x) found f h in rw (e, out .0, lt-leb (scaled-size k x) number-most (out .1))
 
     -- "The sign is that of the rounded value."
     pub laid : (n : ℕ) {r : Scaling} → r ≡ Scaling.Size n → r ≡ scaling-of (scaled-size k x)

@@ -59,7 +59,7 @@ sized : (n : ℕ) → n ≤ number-most → Scaling.Size n ≡ scaling-of n
 unfolding scaling-of
 sized n h = rw (le-leb n number-most h)
 
-too-large : (n : ℕ) → number-most < n → Scaling.TooLarge ≡ scaling-of n
+too-large : (n : ℕ) → number-most < n → Scaling.Refused 10 ≡ scaling-of n
 unfolding scaling-of
 too-large n h = rw (lt-leb n number-most h)
 
@@ -85,5 +85,5 @@ module _ (negative : Bool) (size decimals scale : ℕ) where
   scaled-up times h e within = sized (size * times) (times-within size times (decimals - scale) e within) ∙ ap scaling-of (added times h e)
 
   pub scaled-beyond : (times : ℕ) → scale ≤ decimals → times ≡ 10 ^ (decimals - scale) → number-most / times < size
-      → Scaling.TooLarge ≡ scaling-of (rounded negative (size * 10 ^ (decimals - scale)) (10 ^ (scale - decimals)))
+      → Scaling.Refused 10 ≡ scaling-of (rounded negative (size * 10 ^ (decimals - scale)) (10 ^ (scale - decimals)))
   scaled-beyond times h e beyond = too-large (size * times) (times-beyond size times (decimals - scale) e beyond) ∙ ap scaling-of (added times h e)

@@ -4,9 +4,10 @@
 use crate::scaling::Scaling;
 use codes::Fill;
 use codes::Mask;
-use numbers::Form;
 use numbers::Number;
+use numbers::Reckoned;
 use paper::Given;
+use paper::Limit;
 use paper::refusal;
 ghost use mathlib.Core.Option.{some};
 ghost use mathlib.Core.Path.{_≡_};
@@ -24,8 +25,8 @@ ghost use Rattle.masks.specs.Bounds.{Bounded, field-width};
 mod scaling;
 mod text;
 
-// Room for any text: `$`, a sign, 15 digits with 4 commas, a point with 9 decimals, a suffix of two, each at its most. So 9 is never given.
-const LONGEST: usize = 33;
+// Room for any text: `$` and a sign, a number's digits with 4 commas, a point with 9 decimals, a suffix of two, each at its most. So 9 is never given.
+const LONGEST: usize = 2 + Limit::DIGITS.most + 4 + 10 + 2;
 
 // "ML and MR: empty stays empty, other non-numeric is 12." "Checks: 12, 10, 14, 9."
 pub fn give(e: &[u8], mask: Mask, out: &mut [u8]) -> Given
@@ -36,11 +37,11 @@ pub fn give(e: &[u8], mask: Mask, out: &mut [u8]) -> Given
     if e.len() == 0 {
         return Given::Length(0);
     }
-    match numbers::reading::form(e) {
-        Form::NotNumeric => Given::Refused(refusal::NOT_CONVERTIBLE),
-        Form::TooLarge => Given::Refused(refusal::OUT_OF_RANGE),
-        Form::Number(x) => number_masked(x, mask, out),
-    }
+    let element = numbers::reading::convertible(e);
+    let Reckoned::Number(x) = element else {
+        return Given::Refused(element.refusal());
+    };
+    number_masked(x, mask, out)
 }
 
 // "Z turns an element of 0 into empty text"; "The sign is that of the rounded value."
@@ -56,8 +57,9 @@ fn number_masked(x: Number, mask: Mask, out: &mut [u8]) -> Given
     if blank_zero & (element == 0) {
         return blank_text(filled, out);
     }
-    let Scaling::Size(size) = scaling::scaled(negative, element, mask.decimals, mask.scale) else {
-        return Given::Refused(refusal::OUT_OF_RANGE);
+    let scaled = scaling::scaled(negative, element, mask.decimals, mask.scale);
+    let Scaling::Size(size) = scaled else {
+        return Given::Refused(scaled.refusal());
     };
     let y = Number {
         negative: negative & (0 < size),

@@ -4,12 +4,24 @@ ghost use mathlib.Core.Path.{_≡_};
 ghost use Prim.Native.Nat.{_*_, _-_, _^_, _≤_, _<_};
 ghost use Rattle.paper.specs.Sizes.{number-most};
 ghost use Rattle.paper.specs.Masks.{rounded};
-ghost use Rattle.masks.specs.Scaling.{scaling-of};
+ghost use Rattle.masks.specs.Scaling.{scaling-of, scaling-refusal};
 
-// A scaled size in range, or one out of it.
+// A scaled size, or the refusal's number.
 pub(crate) enum Scaling {
     Size(u64),
-    TooLarge,
+    Refused(u64),
+}
+
+impl Scaling {
+    // the number to pass up where this is a refusal
+    pub(crate) fn refusal(self) -> u64
+        ensures { λ r. ⌜ r ≡ scaling-refusal self ⌝ }
+    {
+        match self {
+            Scaling::Size(_) => 0,
+            Scaling::Refused(number) => number,
+        }
+    }
 }
 
 // a size over ten to the m, with n decimals; one out of range is never made
@@ -23,7 +35,7 @@ pub(crate) fn scaled(negative: bool, size: u64, decimals: u64, scale: u64) -> Sc
     }
     let times = writing::power((decimals - scale) as usize);
     if numbers::MOST / times < size {
-        return Scaling::TooLarge;
+        return Scaling::Refused(paper::refusal::OUT_OF_RANGE);
     }
     Scaling::Size(size * times)
 }

@@ -1,4 +1,4 @@
--- `give` meets its contract: an empty element, no number, one out of range, or what the number gives. Assumes nothing.
+-- `give` meets its contract: an empty element, a refusal passed up, or what the number gives. Assumes nothing.
 use mathlib.Core.Path.{refl, sym, _∙_}
 use mathlib.Core.List.{[]}
 use borrow.Author.Needs.{needs}
@@ -7,8 +7,8 @@ use Rattle.paper.specs.Sizes.{entry-most}
 use Rattle.paper.specs.Numbers.{numeric}
 use Rattle.paper.specs.Masks.{number-masked, mask-gives}
 use Rattle.codes.specs.Meaning.{mask-of}
-use Rattle.numbers.proofs.ReadingLaws.{number-form}
-use Rattle.numbers.proofs.FormLaws.{empty-stays, form-decides}
+use Rattle.numbers.specs.Forms.{whole}
+use Rattle.numbers.proofs.FormLaws.{a-number, passed-up, convertible-size, empty-stays, converts}
 use Rattle.masks.proofs.LayoutLaws.{same-answer, refuses, gives}
 use Rattle.masks.proofs.MaskLaws.{mask-limited}
 use Rattle.masks.proofs.give.Statement.{statement}
@@ -23,46 +23,39 @@ returns c =
     same-answer (a .out .now) (sym (mask-limited k (a .e .now) (start .pre .1)))
     (gives (mask-gives k (a .e .now)) [] (a .out .now) (a .out .now) 0 (empty-stays (number-masked k) (a .e .now) (c .if1 .taken)) refl refl)
 
-number-masked-requires : tie.Need-number-masked-requires
-unfolding entry-most
-number-masked-requires c κs =
-    let found = c .before .before .x .given in
-    let reads = c .before .before .before .before in
-    let start = reads .before .before .before .before in
-    (number-form (numeric (start .args .e .now)) (found .0 .0) (sym (reads .form .ensures) ∙ found .1) .1, omega (arith, start .pre), start .pre .1)
-
 returns-2 : tie.Need-returns-2
 unfolding mask-gives
 returns-2 c =
-    let reads = c .before .before in
+    let reads = c .before .before .before in
     let start = reads .before .before .before .before in
     let a = start .args in
     let k = mask-of (a .mask) in
+    let n = passed-up (reads .convertible .ensures) (c .before .enum-told .given .1) (c .refusal .ensures) in
     same-answer (a .out .now) (sym (mask-limited k (a .e .now) (start .pre .1)))
-    (refuses (mask-gives k (a .e .now)) 12 (a .out .now)
-    (form-decides (number-masked k) (a .e .now) (reads .before .if1 .left) (sym (c .enum-told .given .1) ∙ reads .form .ensures)))
+    (refuses (mask-gives k (a .e .now)) (c .refusal .result) (a .out .now) (converts (number-masked k) (a .e .now) (reads .before .if1 .left) n))
+
+number-masked-requires : tie.Need-number-masked-requires
+unfolding entry-most
+number-masked-requires c κs =
+    let found = c .before .before .element .given in
+    let reads = c .before .before .before .before in
+    let start = reads .before .before .before .before in (
+      convertible-size (numeric (start .args .e .now)) (whole (found .0 .0)) (a-number (reads .convertible .ensures) (found .1)),
+      omega (arith, start .pre),
+      start .pre .1,
+    )
 
 returns-3 : tie.Need-returns-3
 unfolding mask-gives
 returns-3 c =
-    let reads = c .before .before in
-    let start = reads .before .before .before .before in
-    let a = start .args in
-    let k = mask-of (a .mask) in
-    same-answer (a .out .now) (sym (mask-limited k (a .e .now) (start .pre .1)))
-    (refuses (mask-gives k (a .e .now)) 10 (a .out .now)
-    (form-decides (number-masked k) (a .e .now) (reads .before .if1 .left) (sym (c .enum-told2 .given .1) ∙ reads .form .ensures)))
-
-returns-4 : tie.Need-returns-4
-unfolding mask-gives
-returns-4 c =
-    let found = c .before .before .before .before .before .x .given in
+    let found = c .before .before .before .before .before .element .given in
     let reads = c .before .before .before .before .before .before .before in
     let start = reads .before .before .before .before in
     let a = start .args in
     let k = mask-of (a .mask) in
-    let decided = form-decides (number-masked k) (a .e .now) (reads .before .if1 .left) (sym (found .1) ∙ reads .form .ensures) in
-    same-answer (a .out .now) (sym decided ∙ sym (mask-limited k (a .e .now) (start .pre .1))) (c .before .before .number-masked .ensures)
+    let x = a-number (reads .convertible .ensures) (found .1) in
+    same-answer (a .out .now) (sym (converts (number-masked k) (a .e .now) (reads .before .if1 .left) x) ∙ sym (mask-limited k (a .e .now) (start .pre .1)))
+    (c .before .before .number-masked .ensures)
 
 pub give-spec : {M : Type 1} → statement M
 give-spec =
@@ -72,9 +65,8 @@ give-spec =
     (λ c κs. search needs)
     (λ c. search needs)
     (λ c. search needs)
-    (λ c. search needs)
-    number-masked-requires
+    (λ c κs. search needs)
     returns-2
-    returns-3
+    number-masked-requires
     (λ c. search needs)
-    returns-4)
+    returns-3)

@@ -27,15 +27,15 @@ scaled-requires c κs = let pre = c .before .before .pre in omega (arith, pre, p
 returns-2 : tie.Need-returns-2
 unfolding mask-of
 returns-2 c =
-    let tests = c .before .before .before in
-    let a = tests .before .before .args in
-    refuses (number-masked (mask-of (a .mask)) (whole (a .x))) 10 (a .out .now)
-    (beyond (mask-of (a .mask)) (whole (a .x)) (tests .if1 .left) (c .enum-told .given .1) (c .before .before .scaled .ensures))
+    let scales = c .before .before .before in
+    let a = scales .before .before .before .args in
+    refuses (number-masked (mask-of (a .mask)) (whole (a .x))) (c .refusal .result) (a .out .now)
+    (beyond (mask-of (a .mask)) (whole (a .x)) (scales .before .if1 .left) (c .before .enum-told .given .1) (c .refusal .ensures) (scales .scaled .ensures))
 
 shown-requires : tie.Need-shown-requires
 unfolding mask-of
 shown-requires c κs =
-    let found = c .before .before .size .given in
+    let found = c .before .before .scaled2 .given in
     let scales = c .before .before .before .before in
     let start = scales .before .before .before in
     let a = start .args in
@@ -44,7 +44,7 @@ shown-requires c κs =
 returns-3 : tie.Need-returns-3
 unfolding mask-of
 returns-3 c =
-    let found = c .before .before .before .before .before .size .given in
+    let found = c .before .before .before .before .before .scaled2 .given in
     let scales = c .before .before .before .before .before .before .before in
     let a = scales .before .before .before .args in
     same-answer (a .out .now)
@@ -61,6 +61,7 @@ number-masked-spec =
     scaled-requires
     (λ c. search needs)
     (λ c. search needs)
+    (λ c κs. search needs)
     returns-2
     shown-requires
     (λ c. search needs)
