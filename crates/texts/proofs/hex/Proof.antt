@@ -22,12 +22,12 @@ mul-if1 c = omega (arith, entry-limit)
 returns : tie.Need-returns Inv-loop μ-loop
 unfolding plain-gives
 returns c =
-    let a = c .before .before .before .args in
+    let a = c .before .before .before .before .args in
     turned-down (a .out .now) (over-long (hexed (a .e .now)) (omega (arith, entry-limit, hexed-length (a .e .now))))
 
 loop-holds : tie.Need-loop-holds Inv-loop μ-loop
 loop-holds c =
-    let a = c .before .before .before .args in
+    let a = c .before .before .before .before .args in
     (omega arith, refl, begun (omega (arith, entry-limit, hexed-length (a .e .now))))
 
 digit-requires : tie.Need-digit-requires Inv-loop μ-loop
@@ -59,7 +59,7 @@ loop-again c =
 returns-2 : tie.Need-returns-2 Inv-loop μ-loop
 unfolding plain-gives
 returns-2 c =
-    let e = c .before .before .before .before .before .args .e .now in
+    let e = c .before .before .before .before .before .before .args .e .now in
     answered
     (onto (c .before .loop .inv .2) (hexed-none e (c .before .loop .i) (c .loop-test .left)))
     (omega (arith, entry-limit, hexed-length e))
