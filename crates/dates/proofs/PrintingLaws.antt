@@ -12,7 +12,7 @@ use lib.Dec.{leb}
 use borrow.Author.Tests.{le-leb, lt-leb, leb-true}
 use Rattle.paper.specs.Bytes.{Bytes, if_then_else_}
 use Rattle.paper.specs.Sizes.{entry-most}
-use Rattle.paper.specs.Refusals.{Res, given, refused, refuse_unless_, _>>_}
+use Rattle.paper.specs.Refusals.{Res, given, refused, refuse_unless_, _>>=_, _>>_}
 use Rattle.paper.specs.Answers.{given-of, written}
 use Rattle.paper.specs.Numbers.{Number, numeric, digits}
 use Rattle.paper.specs.Steps.{limited}
@@ -22,12 +22,11 @@ use Rattle.paper.proofs.Calendar.{calendar-parts, date-of-in-calendar}
 use Rattle.paper.proofs.Numerals.{length-digits}
 use Rattle.lent.specs.Over.{over}
 use Rattle.lent.proofs.Laws.{over-is, over-none, length-over, over-front, over-over}
-use Rattle.numbers.specs.declared.Form.{Form}
-use Rattle.numbers.specs.Forms.{whole, form-of}
-use Rattle.numbers.proofs.FormLaws.{by-form, empty-stays, form-decides}
+use Rattle.numbers.specs.Forms.{convertible}
+use Rattle.numbers.proofs.FormLaws.{empty-stays, converts}
 use Rattle.dates.specs.declared.Date.{Date as Coded-date}
 use Rattle.dates.specs.declared.Ranged.{Ranged}
-use Rattle.dates.specs.Dated.{code-date, ranged-of}
+use Rattle.dates.specs.Dated.{code-date, ranged-of, ranged-refusal}
 use Rattle.dates.specs.Scans.{dated-text}
 use Rattle.dates.proofs.Tables.{names, name-at, part-at}
 
@@ -120,7 +119,7 @@ pub before-zero : (x : Number) → x .negative ≡ true → x .size ≤ 718_430 
 unfolding ranged-day ranged-of
 before-zero x s h = rw (s, le-leb (x .size) 718_430 h)
 
-pub too-early : (x : Number) → x .negative ≡ true → 718_430 < x .size → Ranged.Outside ≡ ranged-of (ranged-day x)
+pub too-early : (x : Number) → x .negative ≡ true → 718_430 < x .size → Ranged.Refused 10 ≡ ranged-of (ranged-day x)
 unfolding ranged-day ranged-of
 too-early x s h = rw (s, lt-leb (x .size) 718_430 h)
 
@@ -128,7 +127,7 @@ pub from-zero : (x : Number) → x .negative ≡ false → x .size ≤ 2_933_628
 unfolding ranged-day ranged-of
 from-zero x s h = rw (s, le-leb (x .size) 2_933_628 h)
 
-pub too-late : (x : Number) → x .negative ≡ false → 2_933_628 < x .size → Ranged.Outside ≡ ranged-of (ranged-day x)
+pub too-late : (x : Number) → x .negative ≡ false → 2_933_628 < x .size → Ranged.Refused 10 ≡ ranged-of (ranged-day x)
 unfolding ranged-day ranged-of
 too-late x s h = rw (s, lt-leb (x .size) 2_933_628 h)
 
@@ -155,10 +154,11 @@ unfolding ranged-of
 day-reached {day} (reached {day = d} h) e = let same : d ≡ day = cc in (ap given same, omega arith)
 day-reached outside e = let z : _≡_ {A = ℕ} 0 1 = cc in absurd (omega arith)
 
-day-outside : {r : Res ℕ} → Reached r → ranged-of r ≡ Ranged.Outside → r ≡ refused 10
+-- the refusal's number is passed up
+day-refused : (v : Res ℕ) {r : Ranged} {n m : ℕ} → r ≡ ranged-of v → r ≡ Ranged.Refused n → m ≡ ranged-refusal r → v ≡ refused m
 unfolding ranged-of
-day-outside (reached h) e = let z : _≡_ {A = ℕ} 0 1 = cc in absurd (omega arith)
-day-outside outside e = refl
+day-refused (given day) e f k = cc
+day-refused (refused j) e f k = ap refused (sym (k ∙ ap ranged-refusal e))
 
 pub day-in-range : (x : Number) (r : Ranged) {day : ℕ} → r ≡ ranged-of (ranged-day x) → r ≡ Ranged.Day day
     → (ranged-day x ≡ given day) × (day ≤ 3_652_058)
@@ -168,10 +168,10 @@ pub date-month : (day : ℕ) (d : Coded-date) → d ≡ code-date (date-of day) 
 date-month day d e = let p = calendar-parts (date-of day) (date-of-in-calendar day) in rw e (p .month-first, p .month-last)
 
 -- the answers of `number_dated`
-pub dated-refused : (held : Bytes) (n : ℕ) (s : Option ℕ) (x : Number) (r : Ranged) → r ≡ ranged-of (ranged-day x) → r ≡ Ranged.Outside
-    → (Refused 10 ≡ given-of (dated-text n s (ranged-day x))) × (held ≡ written held (dated-text n s (ranged-day x)))
+pub dated-refused : (held : Bytes) (n : ℕ) (s : Option ℕ) (x : Number) (r : Ranged) {k m : ℕ} → r ≡ ranged-of (ranged-day x) → r ≡ Ranged.Refused k
+    → m ≡ ranged-refusal r → (Refused m ≡ given-of (dated-text n s (ranged-day x))) × (held ≡ written held (dated-text n s (ranged-day x)))
 unfolding dated-text given-of written
-dated-refused held n s x r e f = rw (day-outside (reach x) (sym e ∙ f)) (refl, refl)
+dated-refused held n s x r e f k = rw (day-refused (ranged-day x) e f k) (refl, refl)
 
 pub dated-given : (held last : Bytes) (n r : ℕ) (s : Option ℕ) (x : Number) (day : ℕ) (d : Date) → ranged-day x ≡ given day → d ≡ date-of day
     → r ≡ length (date-text n s d) → last ≡ over held 0 (date-text n s d)
@@ -199,17 +199,14 @@ pub limited-empty : (n : ℕ) (s : Option ℕ) (e : Bytes) → length e ≡ 0 �
 unfolding limited entry-most date-gives dated-text
 limited-empty n s e h = ap (limited entry-most) (empty-stays (λ x. dated-text n s (ranged-day x)) e h)
 
-limited-form : (n : ℕ) (s : Option ℕ) (r : Form) → n ≤ 4
-    → limited entry-most (by-form (λ x. dated-text n s (ranged-day x)) r) ≡ by-form (λ x. dated-text n s (ranged-day x)) r
+limited-number : (n : ℕ) (s : Option ℕ) (v : Res Number) → n ≤ 4
+    → limited entry-most (v >>= λ x. dated-text n s (ranged-day x)) ≡ (v >>= λ x. dated-text n s (ranged-day x))
 unfolding limited
-limited-form n s (Form.Number x) k = limited-dated n s k (reach (whole x))
-limited-form n s Form.TooLarge k = refl
-limited-form n s Form.NotNumeric k = refl
+limited-number n s (given x) k = limited-dated n s k (reach x)
+limited-number n s (refused m) k = refl
 
 -- the answers of `give`
-pub gives-by : (n : ℕ) (s : Option ℕ) (e : Bytes) (r : Form) → n ≤ 4 → (length e ≡ 0 → ⊥) → r ≡ form-of (numeric e)
-    → limited entry-most (date-gives n s e) ≡ by-form (λ x. dated-text n s (ranged-day x)) r
+pub gives-by : (n : ℕ) (s : Option ℕ) (e : Bytes) {v : Res Number} → n ≤ 4 → (length e ≡ 0 → ⊥) → convertible (numeric e) ≡ v
+    → limited entry-most (date-gives n s e) ≡ (v >>= λ x. dated-text n s (ranged-day x))
 unfolding date-gives dated-text
-gives-by n s e r k h f =
-    ap (limited entry-most) (form-decides (λ x. dated-text n s (ranged-day x)) e h f)
-    ∙ limited-form n s r k
+gives-by n s e {v} k h f = ap (limited entry-most) (converts (λ x. dated-text n s (ranged-day x)) e h f) ∙ limited-number n s v k

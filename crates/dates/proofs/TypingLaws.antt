@@ -14,8 +14,8 @@ use Rattle.paper.specs.Texts.{raised}
 use Rattle.paper.proofs.Ranges.{within-yes, within-below, within-above}
 use Rattle.paper.specs.Grammar.{Reader, follow, all-read, ahead, this, numeral, more-digits}
 use Rattle.dates.specs.declared.Read.{Read}
-use Rattle.dates.specs.declared.Read.the-variants.{Nothing, Found}
-use Rattle.dates.specs.Scans.{found, Within, further, parting, second, ordered, dated, form, day-of}
+use Rattle.dates.specs.declared.Read.the-variants.{Found}
+use Rattle.dates.specs.Scans.{found, Within, read-refusal, further, parting, second, ordered, dated, form, day-of}
 use Rattle.paper.specs.Refusals.{given}
 use Rattle.paper.specs.Numbers.{plus, natural, signed}
 use Rattle.paper.specs.Dates.{Date, days-to, day-zero}
@@ -37,14 +37,18 @@ seen {x} {most} {text} r e f =
     let w = rw f at (e .1) in
     record { reads = e .0 ∙ ap (found text) f; small = w .0; inside = w .1 }
 
--- and one that found nothing
-pub unseen : {x : Option (ℕ × Bytes)} (text : Bytes) (r : Read) → x ≡ found text r → r ≡ Nothing → x ≡ none
+-- and one that was refused: nothing is read, and its number is 12
+pub unseen : {x : Option (ℕ × Bytes)} (text : Bytes) (r : Read) {n : ℕ} → x ≡ found text r → r ≡ Read.Refused n → x ≡ none
 unfolding found
 unseen text r e f = e ∙ ap (found text) f
 
+pub day-passed : (most : ℕ) {n m : ℕ} (text : Bytes) (r : Read) → Within most text r → r ≡ Read.Refused n → m ≡ read-refusal r → Refused m ≡ day-of none
+unfolding day-of typed-of
+day-passed most {n} text r w f k = let e : n ≡ 12 = rw f at w in ap Refused (k ∙ ap read-refusal f ∙ e)
+
 pub within-more : {m n : ℕ} (text : Bytes) (r : Read) → m ≤ n → Within m text r → Within n text r
-within-more text Nothing h w = tt
 within-more text (Found value next) h w = (omega arith, w .1)
+within-more text (Read.Refused n) h w = w
 
 -- the bytes that are digits, and those below and above them
 digit-within : (b : ℕ) → 48 ≤ b → b ≤ 57 → is-digit b ≡ true

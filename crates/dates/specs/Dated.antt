@@ -20,7 +20,11 @@ unfoldable pub typed-of : Res Number → TypedDay
 typed-of (given x) = Day (x .negative) (x .size)
 typed-of (refused n) = Refused n
 
--- a day in its range, or 10
+-- a day in its range, or the refusal, which `ranged-day` gives as 10; the refusal's number, 0 for none
 unfoldable pub ranged-of : Res ℕ → Ranged
 ranged-of (given day) = Ranged.Day day
-ranged-of (refused n) = Ranged.Outside
+ranged-of (refused n) = Ranged.Refused n
+
+abbrev pub ranged-refusal : Ranged → ℕ
+ranged-refusal (Ranged.Day day) = 0
+ranged-refusal (Ranged.Refused n) = n

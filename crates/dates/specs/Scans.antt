@@ -1,5 +1,6 @@
 -- What the readers of this crate find, beside the readers of the definitions: proof furniture, which the laws tie to the definitions.
 use Prim.Native.Nat.{ℕ, zero, suc, _+_, _*_, _≤_}
+use mathlib.Core.Path.{_≡_}
 use mathlib.Core.Bool.{Bool, true, false}
 use mathlib.Core.Option.{Option, none, some}
 use lib.ListN.{length, drop}
@@ -10,19 +11,24 @@ use Rattle.paper.specs.Grammar.{Reader, _>>=_, _>>_, gives, this}
 use Rattle.paper.specs.Dates.{Date, days-to, day-zero, date-of, date-text}
 use Rattle.paper.specs.TypedDates.{typed-digit, typed-pair, typed-month, typed-year, in-calendar}
 use Rattle.dates.specs.declared.Read.{Read}
-use Rattle.dates.specs.declared.Read.the-variants.{Nothing, Found}
+use Rattle.dates.specs.declared.Read.the-variants.{Found, Refused}
 use Rattle.dates.specs.declared.TypedDay.{TypedDay}
 use Rattle.dates.specs.Dated.{typed-of}
 
 -- what a reader of the definitions gives: the number, and the bytes after it
 unfoldable pub found : Bytes → Read → Option (ℕ × Bytes)
-found text Nothing = none
 found text (Found value next) = some (value, drop next text)
+found text (Refused n) = none
 
--- the number and the place are within bounds
+-- the number and the place are within bounds; "another form is 12"
 abbrev pub Within : ℕ → Bytes → Read → Type 0
-Within most text Nothing = Unit {0}
 Within most text (Found value next) = (value ≤ most) × (next ≤ length text)
+Within most text (Refused n) = n ≡ not-convertible
+
+-- the refusal's number, 0 for none
+abbrev pub read-refusal : Read → ℕ
+read-refusal (Found value next) = 0
+read-refusal (Refused n) = n
 
 -- one digit more after those of n
 unfoldable pub further : ℕ → Reader ℕ

@@ -10,12 +10,12 @@ ghost use Rattle.paper.specs.TypedDates.{in-calendar};
 ghost use Rattle.dates.specs.Dated.{paper-date, code-date};
 
 // "day 0 is 31 December 1967 .. from -718,430 (1 January of year 1) to 2,933,628 (31 December 9999)"
-pub const DAY_ZERO: u64 = 718_430;
+pub(crate) const DAY_ZERO: u64 = 718_430;
 
-pub const LAST_DAY: u64 = 2_933_628;
+pub(crate) const LAST_DAY: u64 = 2_933_628;
 
 // The months' names, three letters each.
-pub const NAMES: [u8; 36] = *b"JANFEBMARAPRMAYJUNJULAUGSEPOCTNOVDEC";
+pub(crate) const NAMES: [u8; 36] = *b"JANFEBMARAPRMAYJUNJULAUGSEPOCTNOVDEC";
 
 // The lengths of the months of a common year.
 const LENGTHS: [u64; 12] = [31, 28, 31, 30, 31, 30, 31, 31, 30, 31, 30, 31];
@@ -96,7 +96,7 @@ fn month_day(year: u64, n: u64) -> Date
 }
 
 // the date of day n, counted from 1 January of year 1
-pub fn date_of(n: u64) -> Date
+pub(crate) fn date_of(n: u64) -> Date
     requires { ⌜ n ≤ day-zero + last-day ⌝ }
     ensures { λ r. ⌜ r ≡ code-date (date-of n) ⌝ }
 {
@@ -105,7 +105,7 @@ pub fn date_of(n: u64) -> Date
 }
 
 // the days from 1 January of year 1 to a date of the calendar
-pub fn days_to(d: Date) -> u64
+pub(crate) fn days_to(d: Date) -> u64
     requires { ⌜ (in-calendar (paper-date d) ≡ true) × (d .year ≤ 9_999) ⌝ }
     ensures { λ r. ⌜ r ≡ days-to (paper-date d) ⌝ }
 {
@@ -113,7 +113,7 @@ pub fn days_to(d: Date) -> u64
 }
 
 // whether the calendar has the date
-pub fn in_calendar(d: Date) -> bool
+pub(crate) fn in_calendar(d: Date) -> bool
     ensures { λ r. ⌜ r ≡ in-calendar (paper-date d) ⌝ }
 {
     if d.month < 1 {

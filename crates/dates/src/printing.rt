@@ -3,8 +3,8 @@ use crate::Date;
 use crate::Ranged;
 use crate::calendar;
 use codes::Separator;
-use numbers::Form;
 use numbers::Number;
+use numbers::Reckoned;
 use paper::Given;
 ghost use mathlib.Core.List.{[], _∷_, _++_};
 ghost use mathlib.Core.Path.{_≡_};
@@ -30,26 +30,27 @@ pub fn give(e: &[u8], n: u64, separator: Separator, out: &mut [u8]) -> Given
     if e.len() == 0 {
         return Given::Length(0);
     }
-    match numbers::reading::form(e) {
-        Form::NotNumeric => Given::Refused(paper::refusal::NOT_CONVERTIBLE),
-        Form::TooLarge => Given::Refused(paper::refusal::OUT_OF_RANGE),
-        Form::Number(x) => number_dated(x, n, separator, out),
-    }
+    let element = numbers::reading::convertible(e);
+    let Reckoned::Number(x) = element else {
+        return Given::Refused(element.refusal());
+    };
+    number_dated(x, n, separator, out)
 }
 
-// the date of a number's day; 10 for a "day outside its range"
+// the date of a number's day
 fn number_dated(x: Number, n: u64, separator: Separator, out: &mut [u8]) -> Given
     requires { ⌜ (11 ≤ length (now out)) × (n ≤ 4) ⌝ }
     ensures { λ r. ⌜ r ≡ given-of (dated-text n (separator-of separator) (ranged-day (whole x))) ⌝ }
     ensures { λ _. ⌜ now (out .exit) ≡ written (now (out .entry)) (dated-text n (separator-of separator) (ranged-day (whole x))) ⌝ }
 {
-    let Ranged::Day(day) = ranged_day(x) else {
-        return Given::Refused(paper::refusal::OUT_OF_RANGE);
+    let ranged = ranged_day(x);
+    let Ranged::Day(day) = ranged else {
+        return Given::Refused(ranged.refusal());
     };
     Given::Length(date_text(calendar::date_of(day), n, separator, out))
 }
 
-// a day in its range, counted from 1 January of year 1
+// a day counted from 1 January of year 1; 10 for a "day outside its range"
 fn ranged_day(x: Number) -> Ranged
     ensures { λ r. ⌜ r ≡ ranged-of (ranged-day (whole x)) ⌝ }
 {
@@ -58,12 +59,12 @@ fn ranged_day(x: Number) -> Ranged
         if size <= calendar::DAY_ZERO {
             return Ranged::Day(calendar::DAY_ZERO - size);
         }
-        return Ranged::Outside;
+        return Ranged::Refused(paper::refusal::OUT_OF_RANGE);
     }
     if size <= calendar::LAST_DAY {
         return Ranged::Day(calendar::DAY_ZERO + size);
     }
-    Ranged::Outside
+    Ranged::Refused(paper::refusal::OUT_OF_RANGE)
 }
 
 // "Without s `DD MMM YYYY`, with s `MMsDDsYYYY`"

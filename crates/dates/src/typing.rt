@@ -34,7 +34,7 @@ fn further(text: &[u8], before: u64, at: usize) -> Read
     ensures within { λ r. ⌜ Within (before * 10 + 9) (now (text .entry)) r ⌝ }
 {
     if at == text.len() {
-        return Read::Nothing;
+        return Read::Refused(paper::refusal::NOT_CONVERTIBLE);
     }
     let b = text[at];
     match b {
@@ -42,7 +42,7 @@ fn further(text: &[u8], before: u64, at: usize) -> Read
             value: before * 10 + (b - b'0') as u64,
             next: at + 1,
         },
-        _ => Read::Nothing,
+        _ => Read::Refused(paper::refusal::NOT_CONVERTIBLE),
     }
 }
 
@@ -52,8 +52,9 @@ fn pair(text: &[u8], at: usize) -> Read
     ensures reads { λ r. ⌜ typed-pair (drop at (now (text .entry))) ≡ found (now (text .entry)) r ⌝ }
     ensures within { λ r. ⌜ Within 99 (now (text .entry)) r ⌝ }
 {
-    let Read::Found { value: a, next: i } = further(text, 0, at) else {
-        return Read::Nothing;
+    let first = further(text, 0, at);
+    let Read::Found { value: a, next: i } = first else {
+        return first;
     };
     let Read::Found { value: b, next: j } = further(text, a, i) else {
         return Read::Found { value: a, next: i };
@@ -79,11 +80,13 @@ fn year(text: &[u8], at: usize) -> Read
     ensures reads { λ r. ⌜ typed-year (drop at (now (text .entry))) ≡ found (now (text .entry)) r ⌝ }
     ensures within { λ r. ⌜ Within 9_999 (now (text .entry)) r ⌝ }
 {
-    let Read::Found { value: a, next: i } = further(text, 0, at) else {
-        return Read::Nothing;
+    let first = further(text, 0, at);
+    let Read::Found { value: a, next: i } = first else {
+        return first;
     };
-    let Read::Found { value: b, next: j } = further(text, a, i) else {
-        return Read::Nothing;
+    let second = further(text, a, i);
+    let Read::Found { value: b, next: j } = second else {
+        return second;
     };
     let Read::Found { value: c, next: k } = further(text, b, j) else {
         return Read::Found {
@@ -129,7 +132,7 @@ fn month(text: &[u8], at: usize) -> Read
     ensures within { λ r. ⌜ Within 12 (now (text .entry)) r ⌝ }
 {
     if text.len() - at < 3 {
-        return Read::Nothing;
+        return Read::Refused(paper::refusal::NOT_CONVERTIBLE);
     }
     let m = month_called(
         capital(text[at]),
@@ -137,7 +140,7 @@ fn month(text: &[u8], at: usize) -> Read
         capital(text[at + 2]),
     );
     if m == 0 {
-        return Read::Nothing;
+        return Read::Refused(paper::refusal::NOT_CONVERTIBLE);
     }
     Read::Found {
         value: m,
@@ -152,10 +155,10 @@ fn parted(text: &[u8], r: Read, s: u8) -> Read
     ensures within { λ p. ⌜ Within 99 (now (text .entry)) p ⌝ }
 {
     let Read::Found { value, next } = r else {
-        return Read::Nothing;
+        return r;
     };
     if next == text.len() {
-        return Read::Nothing;
+        return Read::Refused(paper::refusal::NOT_CONVERTIBLE);
     }
     if s == text[next] {
         return Read::Found {
@@ -163,7 +166,7 @@ fn parted(text: &[u8], r: Read, s: u8) -> Read
             next: next + 1,
         };
     }
-    Read::Nothing
+    Read::Refused(paper::refusal::NOT_CONVERTIBLE)
 }
 
 // a day counted from 1 January of year 1, as counted from 31 December 1967
@@ -229,7 +232,7 @@ fn ended(text: &[u8], letters: bool, a: u64, b: u64, year: Read) -> TypedDay
     ensures { λ r. ⌜ r ≡ day-of (all-read (follow (found (now (text .entry)) year) (dated letters a b))) ⌝ }
 {
     let Read::Found { value, next } = year else {
-        return TypedDay::Refused(paper::refusal::NOT_CONVERTIBLE);
+        return TypedDay::Refused(year.refusal());
     };
     if next < text.len() {
         return TypedDay::Refused(paper::refusal::NOT_CONVERTIBLE);
@@ -241,11 +244,13 @@ fn ended(text: &[u8], letters: bool, a: u64, b: u64, year: Read) -> TypedDay
 fn form(text: &[u8], s: u8, letters: bool) -> TypedDay
     ensures { λ r. ⌜ r ≡ day-of (all-read (form letters s (now (text .entry)))) ⌝ }
 {
-    let Read::Found { value: a, next: i } = parted(text, pair(text, 0), s) else {
-        return TypedDay::Refused(paper::refusal::NOT_CONVERTIBLE);
+    let first = parted(text, pair(text, 0), s);
+    let Read::Found { value: a, next: i } = first else {
+        return TypedDay::Refused(first.refusal());
     };
-    let Read::Found { value: b, next: j } = parted(text, second(text, i, letters), s) else {
-        return TypedDay::Refused(paper::refusal::NOT_CONVERTIBLE);
+    let then = parted(text, second(text, i, letters), s);
+    let Read::Found { value: b, next: j } = then else {
+        return TypedDay::Refused(then.refusal());
     };
     ended(text, letters, a, b, year(text, j))
 }

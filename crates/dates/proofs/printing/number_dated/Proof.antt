@@ -10,20 +10,21 @@ use Rattle.dates.proofs.printing.number_dated.Tie as tie
 
 returns : tie.Need-returns
 returns c =
-    let a = c .before .before .before .before .args in
-    let day = c .before .before .ranged-day in
-    dated-refused (a .out .now) (a .n) (separator-of (a .separator)) (whole (a .x)) (day .result) (day .ensures) (c .enum-told .given .1)
+    let a = c .before .before .before .before .before .args in
+    let day = c .before .before .before .ranged-day in
+    dated-refused (a .out .now) (a .n) (separator-of (a .separator)) (whole (a .x)) (day .result) (day .ensures) (c .before .enum-told .given .1)
+    (c .refusal .ensures)
 
 date-of-requires : tie.Need-date-of-requires
 date-of-requires c κs =
     let day = c .before .before .before .ranged-day in
-    day-in-range (whole (c .before .before .before .before .before .args .x)) (day .result) (day .ensures) (c .before .day .given .1) .1
+    day-in-range (whole (c .before .before .before .before .before .args .x)) (day .result) (day .ensures) (c .before .ranged .given .1) .1
 
 date-text-requires : tie.Need-date-text-requires
 date-text-requires c κs =
     let start = c .before .before .before .before .before .before .before in
     let date = c .before .date-of in
-    let m = date-month (c .before .before .before .day .given .0 .0) (date .result) (date .ensures) in
+    let m = date-month (c .before .before .before .ranged .given .0 .0) (date .result) (date .ensures) in
     (start .pre .0, start .pre .1, m .0, m .1)
 
 returns-2 : tie.Need-returns-2
@@ -31,7 +32,7 @@ returns-2 c =
     let start = c .before .before .before .before .before .before .before .before .before .before in
     let a = start .args in
     let day = c .before .before .before .before .before .before .before .before .ranged-day in
-    let found = c .before .before .before .before .before .before .day in
+    let found = c .before .before .before .before .before .before .ranged in
     let date = c .before .before .before .before .date-of in
     let text = c .before .before .date-text in
     dated-given (a .out .now) (text .last .1 .1 .1 .0) (a .n) (text .result) (separator-of (a .separator)) (whole (a .x)) (found .given .0 .0) (paper-date (date .result))
@@ -44,6 +45,7 @@ number-dated-spec =
     (λ c κs. search needs)
     (λ c. search needs)
     (λ c. search needs)
+    (λ c κs. search needs)
     returns
     date-of-requires
     date-text-requires

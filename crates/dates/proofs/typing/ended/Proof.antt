@@ -1,10 +1,10 @@
 -- `typing::ended` asks for the text's end where the definition does. Assumes nothing.
 use Prim.Native.Nat.{ℕ}
-use mathlib.Core.Path.{_≡_, refl}
+use mathlib.Core.Path.{_≡_, refl, _∙_}
 use borrow.Author.Needs.{needs}
 use Rattle.dates.specs.declared.Read.the-variants.{Found}
 use Rattle.dates.specs.Scans.{found}
-use Rattle.dates.proofs.TypingLaws.{Seen, seen, ended-short, ended-whole, ordered-year, day-none}
+use Rattle.dates.proofs.TypingLaws.{Seen, seen, day-passed, ended-short, ended-whole, ordered-year, day-none}
 use Rattle.dates.proofs.typing.ended.Statement.{statement}
 use Rattle.dates.proofs.typing.ended.Tie as tie
 
@@ -15,7 +15,10 @@ part c f = seen (c .args .year) (refl, c .pre) f
 
 returns : tie.Need-returns
 unfolding found
-returns c = rw (c .enum-told .given .1) day-none
+returns c =
+    let start = c .before .before .before .before in
+    let told = c .before .enum-told .given .1 in
+    day-passed 9_999 (start .args .text .now) (start .args .year) (start .pre) told (c .refusal .ensures) ∙ rw told
 
 returns-2 : tie.Need-returns-2
 returns-2 c =
@@ -49,6 +52,7 @@ ended-spec =
     (tie.spec
     (λ c. search needs)
     (λ c. search needs)
+    (λ c κs. search needs)
     returns
     returns-2
     (λ c κs. search needs)

@@ -1,4 +1,5 @@
 -- `typing::further` reads one digit more where the definition does. Assumes nothing.
+use mathlib.Core.Path.{refl}
 use native.Mathlib.Omega.{arith}
 use borrow.Author.Needs.{needs}
 use Rattle.dates.specs.Scans.{found}
@@ -8,7 +9,7 @@ use Rattle.dates.proofs.typing.further.Tie as tie
 
 returns : tie.Need-returns
 unfolding found
-returns c = (further-end (c .before .args .«before») (c .before .args .text .now) (c .before .args .at) (c .if1 .taken), tt)
+returns c = (further-end (c .before .args .«before») (c .before .args .text .now) (c .before .args .at) (c .if1 .taken), refl)
 
 returns-2 : tie.Need-returns-2
 unfolding found
@@ -20,13 +21,13 @@ returns-3 : tie.Need-returns-3
 unfolding found
 returns-3 c =
     let start = c .before .before .before in
-    (further-less (start .args .«before») (start .args .text .now) (start .args .at) (search needs) (search needs), tt)
+    (further-less (start .args .«before») (start .args .text .now) (start .args .at) (search needs) (search needs), refl)
 
 returns-4 : tie.Need-returns-4
 unfolding found
 returns-4 c =
     let start = c .before .before .before .before in
-    (further-more (start .args .«before») (start .args .text .now) (start .args .at) (search needs) (search needs), tt)
+    (further-more (start .args .«before») (start .args .text .now) (start .args .at) (search needs) (search needs), refl)
 
 pub further-spec : {M : Type 1} → statement M
 further-spec =

@@ -1,6 +1,6 @@
 -- `typing::month` reads three letters where the definition does. Assumes nothing.
 use Prim.Native.Nat.{_+_}
-use mathlib.Core.Path.{_≡_, _∙_}
+use mathlib.Core.Path.{_≡_, refl, _∙_}
 use lib.ListN.{drop}
 use native.Mathlib.Omega.{arith}
 use borrow.Author.Needs.{needs}
@@ -12,7 +12,7 @@ use Rattle.dates.proofs.typing.month.Tie as tie
 
 returns : tie.Need-returns
 unfolding found
-returns c = (month-short (c .before .before .args .text .now) (c .before .before .args .at) (c .if1 .taken), tt)
+returns c = (month-short (c .before .before .args .text .now) (c .before .before .args .at) (c .if1 .taken), refl)
 
 -- the number that the three letters give
 abbrev start-of : tie.After-month-called → tie.Start
@@ -32,7 +32,7 @@ called c =
 
 returns-2 : tie.Need-returns-2
 unfolding found
-returns-2 c = (called (c .before) ∙ named-none (c .before .month-called .result) _ (c .if2 .taken), tt)
+returns-2 c = (called (c .before) ∙ named-none (c .before .month-called .result) _ (c .if2 .taken), refl)
 
 returns-3 : tie.Need-returns-3
 unfolding found

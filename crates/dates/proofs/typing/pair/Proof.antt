@@ -1,8 +1,9 @@
 -- `typing::pair` reads one or two digits where the definition does. Assumes nothing.
+use mathlib.Core.Path.{sym, ap}
 use native.Mathlib.Omega.{arith}
 use borrow.Author.Needs.{needs}
 use Rattle.dates.specs.Scans.{found}
-use Rattle.dates.proofs.TypingLaws.{seen, unseen, pair-is}
+use Rattle.dates.proofs.TypingLaws.{seen, unseen, within-more, pair-is}
 use Rattle.dates.proofs.typing.pair.Statement.{statement}
 use Rattle.dates.proofs.typing.pair.Tie as tie
 
@@ -10,12 +11,13 @@ returns : tie.Need-returns
 unfolding found
 returns c =
     let first = c .before .before .further in
-    (rw (pair-is, unseen _ (first .result) (first .ensures .0) (c .enum-told .given .1)), tt)
+    let told = c .enum-told .given .1 in
+    (rw (pair-is, unseen _ (first .result) (first .ensures .0) told) (sym (ap (found _) told)), within-more _ (first .result) (omega arith) (first .ensures .1))
 
 further-requires-2 : tie.Need-further-requires-2
 further-requires-2 c κs =
     let first = c .before .before .before .further in
-    let one = seen (first .result) (first .ensures) (c .before .a .given .1) in
+    let one = seen (first .result) (first .ensures) (c .before .first .given .1) in
     (omega arith, one .inside)
 
 returns-2 : tie.Need-returns-2
@@ -24,7 +26,7 @@ returns-2 c =
     let here = c .before .before .before in
     let first = here .before .before .before .further in
     let second = c .before .before .further2 in
-    let one = seen (first .result) (first .ensures) (here .before .a .given .1) in
+    let one = seen (first .result) (first .ensures) (here .before .first .given .1) in
     (rw (pair-is, one .reads, unseen _ (second .result) (second .ensures .0) (c .enum-told2 .given .1)), (omega arith, one .inside))
 
 returns-3 : tie.Need-returns-3
@@ -33,7 +35,7 @@ returns-3 c =
     let here = c .before .before .before .before in
     let first = here .before .before .before .further in
     let second = c .before .before .before .further2 in
-    let one = seen (first .result) (first .ensures) (here .before .a .given .1) in
+    let one = seen (first .result) (first .ensures) (here .before .first .given .1) in
     let two = seen (second .result) (second .ensures) (c .before .b .given .1) in
     (rw (pair-is, one .reads, two .reads), (omega arith, two .inside))
 

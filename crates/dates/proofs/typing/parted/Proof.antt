@@ -16,7 +16,7 @@ part c f = seen (c .args .r) (refl, c .pre) f
 
 returns : tie.Need-returns
 unfolding found
-returns c = (rw (c .enum-told .given .1), tt)
+returns c = (rw (c .enum-told .given .1), c .before .before .pre)
 
 returns-2 : tie.Need-returns-2
 unfolding found
@@ -24,7 +24,7 @@ returns-2 c =
     let start = c .before .before .before .before in
     let r = c .before .before .r in
     let w = part start (r .given .1) in
-    (rw (w .reads) (parting-end (start .args .s) (r .given .0 .0) (start .args .text .now) (r .given .0 .1 .0) (c .if1 .taken)), tt)
+    (rw (w .reads) (parting-end (start .args .s) (r .given .0 .0) (start .args .text .now) (r .given .0 .1 .0) (c .if1 .taken)), refl)
 
 shared-slice-read-if2 : tie.Need-shared-slice-read-if2
 shared-slice-read-if2 c =
@@ -52,7 +52,7 @@ returns-4 c =
     let start = c .before .before .before .before .before .before in
     let r = c .before .before .before .before .r in
     let w = part start (r .given .1) in
-    (rw (w .reads) (parting-other (start .args .s) (r .given .0 .0) (start .args .text .now) (r .given .0 .1 .0) (omega arith) (c .if2 .left)), tt)
+    (rw (w .reads) (parting-other (start .args .s) (r .given .0 .0) (start .args .text .now) (r .given .0 .1 .0) (omega arith) (c .if2 .left)), refl)
 
 pub parted-spec : {M : Type 1} → statement M
 parted-spec =

@@ -1,5 +1,6 @@
 -- `typing::year` reads two or four digits where the definition does. Assumes nothing.
 use Prim.Native.Nat.{ℕ, _+_, _*_}
+use mathlib.Core.Path.{sym, ap}
 use lib.ListN.{drop}
 use native.Mathlib.Omega.{arith}
 use borrow.Author.Needs.{needs}
@@ -17,14 +18,15 @@ returns : tie.Need-returns
 unfolding found
 returns c =
     let first = c .before .before .further in
-    (rw (year-is, unseen _ (first .result) (first .ensures .0) (c .enum-told .given .1)), tt)
+    let told = c .enum-told .given .1 in
+    (rw (year-is, unseen _ (first .result) (first .ensures .0) told) (sym (ap (found _) told)), within-more _ (first .result) (omega arith) (first .ensures .1))
 
 one : (c : tie.After-known-told)
     → Digit 0 (c .before .before .before .before .before .args .text .now) (c .before .before .before .before .before .args .at)
-    (c .before .a .given .0 .0) (c .before .a .given .0 .1 .0)
+    (c .before .first .given .0 .0) (c .before .first .given .0 .1 .0)
 one c =
     let first = c .before .before .before .further in
-    seen (first .result) (first .ensures) (c .before .a .given .1)
+    seen (first .result) (first .ensures) (c .before .first .given .1)
 
 further-requires-2 : tie.Need-further-requires-2
 further-requires-2 c κs = (omega (arith, one c .small), one c .inside)
@@ -32,17 +34,21 @@ further-requires-2 c κs = (omega (arith, one c .small), one c .inside)
 returns-2 : tie.Need-returns-2
 unfolding found
 returns-2 c =
+    let here = c .before .before .before in
     let second = c .before .before .further2 in
-    (rw (year-is, one (c .before .before .before) .reads, unseen _ (second .result) (second .ensures .0) (c .enum-told2 .given .1)), tt)
+    let told = c .enum-told2 .given .1 in (
+      rw (year-is, one here .reads, unseen _ (second .result) (second .ensures .0) told) (sym (ap (found _) told)),
+      within-more _ (second .result) (omega (arith, one here .small)) (second .ensures .1),
+    )
 
 two : (c : tie.After-known-told2)
-    → Digit (c .before .before .before .before .before .a .given .0 .0)
+    → Digit (c .before .before .before .before .before .first .given .0 .0)
     (c .before .before .before .before .before .before .before .before .before .args .text .now)
-    (c .before .before .before .before .before .a .given .0 .1 .0)
-    (c .before .b .given .0 .0) (c .before .b .given .0 .1 .0)
+    (c .before .before .before .before .before .first .given .0 .1 .0)
+    (c .before .second .given .0 .0) (c .before .second .given .0 .1 .0)
 two c =
     let second = c .before .before .before .further2 in
-    seen (second .result) (second .ensures) (c .before .b .given .1)
+    seen (second .result) (second .ensures) (c .before .second .given .1)
 
 further-requires-3 : tie.Need-further-requires-3
 further-requires-3 c κs = (omega (arith, one (c .before .before .before .before) .small, two c .small), two c .inside)
@@ -68,9 +74,9 @@ returns-3 c =
     )
 
 three : (c : tie.After-known-told3)
-    → Digit (c .before .before .before .before .before .b .given .0 .0)
+    → Digit (c .before .before .before .before .before .second .given .0 .0)
     (c .before .before .before .before .before .before .before .before .before .before .before .before .before .args .text .now)
-    (c .before .before .before .before .before .b .given .0 .1 .0)
+    (c .before .before .before .before .before .second .given .0 .1 .0)
     (c .before .c .given .0 .0) (c .before .c .given .0 .1 .0)
 three c =
     let third = c .before .before .before .further3 in
