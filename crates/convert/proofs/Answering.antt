@@ -12,7 +12,7 @@ use borrow.Author.Tests.{le-leb, lt-leb, leb-true}
 use Rattle.paper.specs.Bytes.{Bytes, if_then_else_, buffer}
 use Rattle.lent.specs.Over.{over}
 use Rattle.lent.proofs.Laws.{length-over}
-use Rattle.convert.specs.Gather.{gathered-in, Holds-answer, finished-as, finished-out, converted-of, walks, walked-of}
+use Rattle.convert.specs.Gather.{gathered-in, Holds-answer, unanswered-as, finished-as, finished-out, converted-of, walks, walked-of}
 use Rattle.convert.specs.declared.Converted.{Converted}
 use Rattle.convert.specs.declared.Walked.{Walked}
 use Rattle.paper.specs.Refusals.{Res, given, refused, _>>_, refuse_unless_, answer-of, refusal-of, short-output}
@@ -52,13 +52,15 @@ converted number steps n = record { number = number; steps = steps; length = n }
 
 -- how the walk ends, by its form
 module _ (out : Bytes) (w : Walked) where
-  pub finished-stopped : (number steps : ℕ) → w ≡ Walked.Stopped number steps → (converted number steps 0 ≡ finished-as (length out) w) × (replicate (length out) 0 ≡ finished-out out w)
-  unfolding finished-as finished-out
-  finished-stopped number steps e = (rw e, rw e)
+  pub finished-stopped : (number steps : ℕ) {r : Converted} → w ≡ Walked.Stopped number steps → r ≡ unanswered-as w
+      → (r ≡ finished-as (length out) w) × (replicate (length out) 0 ≡ finished-out out w)
+  unfolding unanswered-as finished-as finished-out
+  finished-stopped number steps e f = (f ∙ (rw e), rw e)
 
-  pub finished-short : (steps n : ℕ) → w ≡ Walked.Done steps n → length out < n → (converted short-output steps 0 ≡ finished-as (length out) w) × (replicate (length out) 0 ≡ finished-out out w)
-  unfolding finished-as finished-out
-  finished-short steps n e l = (rw (e, lt-leb n (length out) l), rw (e, lt-leb n (length out) l))
+  pub finished-short : (steps n : ℕ) {r : Converted} → w ≡ Walked.Done steps n → length out < n → r ≡ unanswered-as (Walked.Done steps n)
+      → (r ≡ finished-as (length out) w) × (replicate (length out) 0 ≡ finished-out out w)
+  unfolding unanswered-as finished-as finished-out
+  finished-short steps n e l f = (f ∙ (rw (e, lt-leb n (length out) l)), rw (e, lt-leb n (length out) l))
 
   pub finished-whole : (steps n : ℕ) → w ≡ Walked.Done steps n → n ≤ length out → (converted 0 steps n ≡ finished-as (length out) w) × (over out n (replicate (length out - n) 0) ≡ finished-out out w)
   unfolding finished-as finished-out over

@@ -18,7 +18,7 @@ use Rattle.machine.specs.Runs.{ran-of, Runs, checked-run}
 use Rattle.machine.specs.declared.Ran.{Ran}
 use Rattle.machine.proofs.Laws.{put-same, put-slotted}
 use Rattle.convert.specs.Gather.{gathered-in}
-use Rattle.convert.specs.Running.{codes-in, Accepts, element-outcome, Adds}
+use Rattle.convert.specs.Running.{codes-in, Accepts, element-outcome, stopped-as, Adds}
 use Rattle.convert.specs.declared.Walked.{Walked}
 
 -- the code's limit is the definitions'
@@ -69,16 +69,15 @@ entry-short {scratch} {lens} slotted k = rw length-take (omega (arith, slotted .
 
 module _ (so-far : ℕ) (out : Bytes) {r : Ran} {scratch′ : Bytes} {lens′ : List ℕ} where
   -- its refusal is passed up
-  pub adds-stopped : (answer : Res Bytes) (steps n k : ℕ) → Runs (record { answer = answer; steps = steps }) r scratch′ lens′
-      → r ≡ Ran.Stopped n k → Adds (record { answer = answer; steps = steps }) so-far (Walked.Stopped n k) out out scratch′ lens′
-  unfolding ran-of
-  adds-stopped (given bs) steps n k runs e =
+  pub adds-stopped : (answer : Res Bytes) (steps n k : ℕ) {w : Walked} → Runs (record { answer = answer; steps = steps }) r scratch′ lens′
+      → r ≡ Ran.Stopped n k → w ≡ stopped-as r → Adds (record { answer = answer; steps = steps }) so-far w out out scratch′ lens′
+  unfolding ran-of stopped-as
+  adds-stopped (given bs) steps n k runs e f =
       let not-so : Ran.Done steps ≡ Ran.Stopped n k = sym (runs .answers) ∙ e in
       let z : _≡_ {A = ℕ} 0 1 = cc in
       absurd (omega arith)
-  adds-stopped (refused m) steps n k runs e =
-      let so : Ran.Stopped m steps ≡ Ran.Stopped n k = sym (runs .answers) ∙ e in
-      record { answers = cc; output = refl; slotted = runs .slotted; short = omega arith }
+  adds-stopped (refused m) steps n k runs e f =
+      record { answers = f ∙ ap stopped-as (runs .answers); output = refl; slotted = runs .slotted; short = omega arith }
 
   -- its answer, from its slot, is gathered
   pub adds-done : (answer : Res Bytes) (steps k : ℕ) {out′ : Bytes} → Runs (record { answer = answer; steps = steps }) r scratch′ lens′

@@ -20,12 +20,9 @@ use Rattle.paper.proofs.Splitting.{Told, absent, present, Inside, inside-bounds
 use mathlib.Core.Option.{Option}
 use Rattle.machine.specs.Slots.{Slotted}
 use Rattle.records.specs.Found.{lawful-find}
-use Rattle.grammar.specs.Checking.{verdict-of}
+use Rattle.grammar.specs.Checking.{verdict-of, report-in}
 use Rattle.grammar.specs.declared.Verdict.{Verdict}
 use Rattle.convert.specs.Gather.{converted-of, refused-at-once, finished-as, finished-out}
-use types.Run.{OneOf}
-use denote.Enum.Declared.{tagOf}
-use Rattle.grammar.proofs.Verdict.{the-type}
 use Rattle.convert.specs.declared.Converted.{Converted}
 use Rattle.convert.proofs.Answering.{finished-outcome}
 use Rattle.convert.specs.Running.{codes-of, codes-in, Accepts, elements-outcome, Walks}
@@ -39,10 +36,11 @@ unfolding verdict-of codes-in
 accepted-by string (accepted cs) e f = e ∙ ap accepted (sym (ap codes-of e))
 accepted-by string (faulty n k) e f = let z : _≡_ {A = ℕ} 0 1 = cc in absurd (omega arith)
 
-pub refused-by : (c : Checked) {n k : ℕ} → Verdict.Refused n k ≡ verdict-of c → c ≡ faulty n k
-unfolding verdict-of
-refused-by (accepted cs) f = let z : _≡_ {A = ℕ} 0 1 = cc in absurd (omega arith)
-refused-by (faulty n k) f = cc
+pub refused-by : (c : Checked) {n k r : ℕ} {verdict : Verdict} → verdict ≡ Verdict.Refused n k → verdict ≡ verdict-of c
+    → r ≡ report-in verdict .refusal → c ≡ faulty r k
+unfolding verdict-of report-in
+refused-by (accepted cs) e f g = let z : _≡_ {A = ℕ} 0 1 = cc in absurd (omega arith)
+refused-by (faulty n k) {r = r} e f g = let told : r ≡ n = g ∙ ap (λ (x : Verdict). report-in x .refusal) f in cc
 
 module _ (item string : Bytes) (a v s budget room scratch : ℕ) where
   place-is : lawful-find item a v s ≡ lawful-place item a v s
@@ -168,13 +166,13 @@ pub empty-slots : (scratch : Bytes) → scratch-least ≤ length scratch → Slo
 empty-slots scratch h = record { long = h; each = refl; fits = λ k. omega (arith, zeros-read 18 k) }
 
 -- a refusal before the run: its numbers, and zeros throughout
-pub refused-converted : (n : ℕ) → record { number = n; steps = 0; length = 0 } ≡ converted-of (refused-at-once n)
-unfolding converted-of
-refused-converted n = refl
+pub refused-converted : (room n : ℕ) → finished-as room (Walked.Stopped n 0) ≡ converted-of (refused-at-once n)
+unfolding finished-as converted-of
+refused-converted room n = refl
 
-pub refused-output : (room n : ℕ) → replicate room 0 ≡ output-after room (refused-at-once n)
-unfolding output-after buffer
-refused-output room n = rw sub-zero
+pub refused-output : (out : Bytes) (n : ℕ) → finished-out out (Walked.Stopped n 0) ≡ output-after (length out) (refused-at-once n)
+unfolding finished-out output-after buffer
+refused-output out n = rw sub-zero
 
 pub zero-scratch : (n : ℕ) → replicate n 0 ≡ scratch-after n
 unfolding scratch-after
@@ -198,11 +196,6 @@ work-room = lit≤ tt
 
 pub text-short : (item : Bytes) (ts : List Turn) (text : Bytes) → text ≡ reads item ts → length item ≤ record-most → length text ≤ record-most
 text-short item ts text e h = rw e (omega (arith, reads-short item ts))
-
--- an answer whose case is `Accepted`
-pub accepted-tag : (r : Verdict) → OneOf (0 ∷ []) (tagOf the-type r) → (loads : ℕ) × (others : ℕ) × (r ≡ Verdict.Accepted loads others)
-accepted-tag (Verdict.Accepted loads others) t = (loads, others, refl)
-accepted-tag (Verdict.Refused n k) t = absurd (omega arith)
 
 module _ (item string : Bytes) (a v s budget scratch : ℕ) where
   -- what a refusal before the run leaves

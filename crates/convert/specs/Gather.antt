@@ -27,6 +27,11 @@ converted-of o = record { number = refusal-of (o .answer); steps = o .steps; len
 abbrev pub refused-at-once : ℕ → Outcome
 refused-at-once n = record { answer = refused n; steps = 0 }
 
+-- a walk with no answer in the output: the refusal that stopped it, or 16
+unfoldable pub unanswered-as : Walked → Converted
+unanswered-as (Walked.Stopped number steps) = record { number = number; steps = steps; length = 0 }
+unanswered-as (Walked.Done steps n) = record { number = short-output; steps = steps; length = 0 }
+
 -- the same of a walk over the elements, against the output's length
 unfoldable pub finished-as : ℕ → Walked → Converted
 finished-as room (Walked.Stopped number steps) = record { number = number; steps = steps; length = 0 }

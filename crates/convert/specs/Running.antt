@@ -10,6 +10,7 @@ use Rattle.paper.specs.Refusals.{Res, given, refused, answer-of}
 use Rattle.paper.specs.Steps.{element-run}
 use Rattle.paper.specs.Converting.{Outcome, within-budget, elements-run}
 use Rattle.machine.specs.Slots.{Slotted}
+use Rattle.machine.specs.declared.Ran.{Ran}
 use Rattle.paper.specs.Codes.{Code}
 use Rattle.paper.specs.Checking.{Checked, accepted, faulty, check}
 use Rattle.convert.specs.Gather.{gathered-in, Holds-answer, walked-of}
@@ -32,6 +33,11 @@ Accepts string = check string ≡ accepted (codes-in string)
 -- one element of an address, through the codes of the string
 abbrev pub element-outcome : Bytes → Bytes → ℕ → ℕ → ℕ → ℕ → Bytes → Outcome
 element-outcome item string v s budget steps text = within-budget budget steps (element-run entry-most item v s (codes-in string) text)
+
+-- the refusal of an element, passed up with the steps before it
+unfoldable pub stopped-as : Ran → Walked
+stopped-as (Ran.Stopped number steps) = Walked.Stopped number steps
+stopped-as (Ran.Done steps) = Walked.Stopped 0 steps
 
 abbrev pub added : ℕ → Res Bytes → ℕ → Walked
 added so-far (given bs) steps = Walked.Done steps (so-far + length bs)

@@ -14,12 +14,13 @@ ghost use lib.ListN.{length};
 ghost use Rattle.machine.specs.Slots.{Lent};
 ghost use Rattle.machine.specs.Plans.{plan-of};
 ghost use Rattle.machine.specs.Runs.{Runs};
-ghost use Rattle.convert.specs.Running.{codes-in, Accepts, element-outcome, elements-outcome, passed, Adds, Walks};
+ghost use Rattle.convert.specs.Running.{codes-in, Accepts, element-outcome, elements-outcome, stopped-as, passed, Adds, Walks};
 ghost use Rattle.paper.specs.Sizes.{record-most, position-most, scratch-least};
 ghost use Rattle.paper.specs.Refusals.{given};
 ghost use Rattle.paper.specs.Converting.{from-one, within-budget, run, convert, output-after, scratch-after};
 ghost use Rattle.records.specs.Found.{lawful-find};
-ghost use Rattle.convert.specs.Gather.{gathered-in, finished-as, finished-out, converted-of, refused-at-once};
+ghost use Rattle.grammar.specs.Checking.{report-in};
+ghost use Rattle.convert.specs.Gather.{gathered-in, unanswered-as, finished-as, finished-out, converted-of, refused-at-once};
 
 // What converting comes to: the refusal or 0, the steps reported, the answer's length.
 pub struct Converted {
@@ -42,42 +43,50 @@ fn gather(src: &[u8], out: &mut [u8], so_far: usize) -> usize
 }
 
 // What the walk over the elements comes to: the steps and the answer's length, or the refusal and the steps before it.
-pub enum Walked {
+enum Walked {
     Done { steps: u64, length: usize },
     Stopped { number: u64, steps: u64 },
 }
 
-// The answer's length against the output's (refusal 16), and zeros behind the answer, or throughout on a refusal.
-fn finish(walked: Walked, out: &mut [u8]) -> Converted
-    ensures { λ r. ⌜ r ≡ finished-as (length (now (out .entry))) walked ⌝ }
-    ensures { λ _. ⌜ now (out .exit) ≡ finished-out (now (out .entry)) walked ⌝ }
+// A walk with no answer in the output: the refusal that stopped it, or 16 of an answer that the output is too short for.
+fn unanswered(walked: Walked) -> Converted
+    ensures { λ r. ⌜ r ≡ unanswered-as walked ⌝ }
 {
     match walked {
-        Walked::Stopped { number, steps } => {
-            lent::clear(out);
-            Converted {
-                number,
-                steps,
-                length: 0,
-            }
-        }
-        Walked::Done { steps, length } => {
-            if out.len() < length {
-                lent::clear(out);
-                return Converted {
-                    number: refusal::SHORT_OUTPUT,
-                    steps,
-                    length: 0,
-                };
-            }
-            let rest = out.len() - length;
-            lent::fill(out, length, rest, 0);
-            Converted {
-                number: 0,
-                steps,
-                length,
-            }
-        }
+        Walked::Done { steps, length: _ } => Converted {
+            number: refusal::SHORT_OUTPUT,
+            steps,
+            length: 0,
+        },
+        Walked::Stopped { number, steps } => Converted {
+            number,
+            steps,
+            length: 0,
+        },
+    }
+}
+
+// "that buffer holds the answer and then zeros to its end; on a refusal it is zeros throughout", and so is the scratch after every call.
+fn finish(walked: Walked, out: &mut [u8], scratch: &mut [u8]) -> Converted
+    ensures { λ r. ⌜ r ≡ finished-as (length (now (out .entry))) walked ⌝ }
+    ensures { λ _. ⌜ now (out .exit) ≡ finished-out (now (out .entry)) walked ⌝ }
+    ensures { λ _. ⌜ now (scratch .exit) ≡ scratch-after (length (now (scratch .entry))) ⌝ }
+{
+    lent::clear(scratch);
+    let Walked::Done { steps, length } = walked else {
+        lent::clear(out);
+        return unanswered(walked);
+    };
+    if out.len() < length {
+        lent::clear(out);
+        return unanswered(walked);
+    }
+    let rest = out.len() - length;
+    lent::fill(out, length, rest, 0);
+    Converted {
+        number: 0,
+        steps,
+        length,
     }
 }
 
@@ -108,6 +117,16 @@ fn element<'a>(
     machine::running::run_codes(item, code, plan, v, s, budget, steps, scratch, lens, work)
 }
 
+// The refusal of an element, passed up with the steps counted before it.
+fn stopped(ran: Ran) -> Walked
+    ensures { λ r. ⌜ r ≡ stopped-as ran ⌝ }
+{
+    match ran {
+        Ran::Done { steps } => Walked::Stopped { number: 0, steps },
+        Ran::Stopped { number, steps } => Walked::Stopped { number, steps },
+    }
+}
+
 // The same, its answer gathered in the output.
 fn add<'a>(
     item: &'a [u8],
@@ -127,7 +146,7 @@ fn add<'a>(
     requires { ⌜ Lent (now item) (now scratch) (now lens) (now work) × Accepts (now code) × (steps ≤ budget) × («so_far» < 2 ^ 62) × (plan ≡ plan-of (now code)) ⌝ }
     ensures { λ r. ⌜ Adds (element-outcome (now (item .entry)) (now (code .entry)) v s budget steps (now (text .entry))) «so_far» r (now (out .entry)) (now (out .exit)) (now (scratch .exit)) (now (lens .exit)) ⌝ }
 {
-    match element(
+    let ran = element(
         item,
         code,
         plan,
@@ -139,14 +158,13 @@ fn add<'a>(
         scratch,
         lens,
         work,
-    ) {
-        Ran::Stopped { number, steps } => Walked::Stopped { number, steps },
-        Ran::Done { steps } => {
-            let answer = slots::entry(&*scratch, &*lens, slots::ELEMENT);
-            let length = gather(answer, out, so_far);
-            Walked::Done { steps, length }
-        }
-    }
+    );
+    let Ran::Done { steps } = ran else {
+        return stopped(ran);
+    };
+    let answer = slots::entry(&*scratch, &*lens, slots::ELEMENT);
+    let length = gather(answer, out, so_far);
+    Walked::Done { steps, length }
 }
 
 // An element's own (v, s).
@@ -271,12 +289,19 @@ fn refuse(number: u64, out: &mut [u8], scratch: &mut [u8]) -> Converted
     ensures { λ _. ⌜ now (out .exit) ≡ output-after (length (now (out .entry))) (refused-at-once number) ⌝ }
     ensures { λ _. ⌜ now (scratch .exit) ≡ scratch-after (length (now (scratch .entry))) ⌝ }
 {
-    lent::clear(out);
-    lent::clear(scratch);
-    Converted {
-        number,
-        steps: 0,
-        length: 0,
+    finish(Walked::Stopped { number, steps: 0 }, out, scratch)
+}
+
+// The refusal that a verdict carries; 0 for none.
+fn refusal_in(verdict: Verdict) -> u64
+    ensures { λ r. ⌜ r ≡ report-in verdict .refusal ⌝ }
+{
+    match verdict {
+        Verdict::Accepted {
+            loads: _,
+            others: _,
+        } => 0,
+        Verdict::Refused { number, code: _ } => number,
     }
 }
 
@@ -299,18 +324,13 @@ pub fn convert<'a>(
     if refused != 0 {
         return refuse(refused, out, scratch);
     }
-    match grammar::check(code) {
-        Verdict::Refused { number, code: _ } => refuse(number, out, scratch),
-        Verdict::Accepted {
-            loads: _,
-            others: _,
-        } => {
-            if scratch.len() < Limit::SCRATCH.most {
-                return refuse(refusal::SHORT_SCRATCH, out, scratch);
-            }
-            let walked = run(item, code, a, v, s, budget, out, scratch);
-            lent::clear(scratch);
-            finish(walked, out)
-        }
+    let verdict = grammar::check(code);
+    let Verdict::Accepted { .. } = verdict else {
+        return refuse(refusal_in(verdict), out, scratch);
+    };
+    if scratch.len() < Limit::SCRATCH.most {
+        return refuse(refusal::SHORT_SCRATCH, out, scratch);
     }
+    let walked = run(item, code, a, v, s, budget, out, scratch);
+    finish(walked, out, scratch)
 }

@@ -9,11 +9,11 @@ gather-requires c κs =
     gather-fits (c .before .before .before .before .before .before .before .before .before .before .before .before .before .element .ensures .slotted) _ _ _ (c .before .before .before .before .before .before .before .before .before .before .before .before .before .before .before .before .before .before .before .before .before .before .before .before .pre .3) (c .before .entry .ensures)
 
 returns : tie.Need-returns
-returns c = adds-stopped _ _ _ _ _ _ (c .before .before .before .before .before .before .before .before .before .element .ensures) (c .before .number .given .1)
+returns c = adds-stopped _ _ _ _ _ _ (c .before .before .before .before .before .before .before .before .before .element .ensures) (c .before .enum-told .given .1) (c .stopped .ensures)
 
 returns-2 : tie.Need-returns-2
 returns-2 c =
-    adds-gathered _ _ _ _ _ _ (c .before .before .before .before .before .before .before .before .before .before .before .before .before .before .before .before .element .ensures) (c .before .before .before .before .before .before .before .before .steps .given .1) (c .before .before .before .before .entry .ensures)
+    adds-gathered _ _ _ _ _ _ (c .before .before .before .before .before .before .before .before .before .before .before .before .before .before .before .before .element .ensures) (c .before .before .before .before .before .before .before .before .ran .given .1) (c .before .before .before .before .entry .ensures)
     (c .before .before .gather .ensures .0) (c .before .before .gather .ensures .1)
 
 pub add-spec : {M : Type 1} → statement M
@@ -24,11 +24,12 @@ add-spec =
     (λ c. search needs)
     (λ c. search needs)
     (λ c κs. search needs)
-    gather-requires
     (λ c. search needs)
     (λ c. search needs)
     (λ c. search needs)
     returns
+    (λ c κs. search needs)
+    gather-requires
     (λ c. search needs)
     (λ c. search needs)
     (λ c. search needs)
