@@ -1,5 +1,6 @@
 pub mod Accepting
 pub mod Answering
+pub mod Counting
 pub mod Demands
 pub mod Elements
 pub mod Gathering

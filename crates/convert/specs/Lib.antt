@@ -1,3 +1,4 @@
+pub mod Ceiling
 pub mod Gather
 pub mod Running
 pub mod Walk

@@ -1,9 +1,9 @@
 -- The elements of an address as one walk from left to right sees them. Furniture for the proofs: proofs/Walking.antt ties it to `elements`.
-use Prim.Native.Nat.{ℕ, suc}
+use Prim.Native.Nat.{ℕ, suc, _+_}
 use mathlib.Core.List.{List, [], _∷_}
 use lib.Dec.{eqb}
 use Rattle.paper.specs.Bytes.{Bytes, if_then_else_}
-use Rattle.paper.specs.Sizes.{value-mark, subvalue-mark}
+use Rattle.paper.specs.Sizes.{value-mark, subvalue-mark, is-inner-mark}
 use Rattle.paper.specs.Converting.{Element}
 
 abbrev pub element : Bytes → ℕ → ℕ → Bytes → Element
@@ -21,3 +21,8 @@ walked before v s (b ∷ bs) =
     if eqb b value-mark then element before v s [] ∷ walked (value-mark ∷ []) (suc v) 1 bs
     else (if eqb b subvalue-mark then element before v s [] ∷ walked (subvalue-mark ∷ []) v (suc s) bs
     else in-front b (walked before v s bs))
+
+-- how many bytes part elements
+unfoldable pub inner-marks : Bytes → ℕ
+inner-marks [] = 0
+inner-marks (b ∷ bs) = (if is-inner-mark b then 1 else 0) + inner-marks bs

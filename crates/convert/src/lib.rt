@@ -17,9 +17,11 @@ ghost use Rattle.machine.specs.Runs.{Runs};
 ghost use Rattle.convert.specs.Running.{codes-in, Accepts, element-outcome, elements-outcome, stopped-as, passed, Adds, Walks};
 ghost use Rattle.paper.specs.Sizes.{record-most, position-most, scratch-least};
 ghost use Rattle.paper.specs.Refusals.{given};
-ghost use Rattle.paper.specs.Converting.{from-one, within-budget, run, convert, output-after, scratch-after};
+ghost use Rattle.paper.specs.Converting.{from-one, within-budget, run, convert, output-after, scratch-after, ceiling};
 ghost use Rattle.records.specs.Found.{lawful-find};
 ghost use Rattle.grammar.specs.Checking.{report-in};
+ghost use Rattle.convert.specs.Walk.{inner-marks};
+ghost use Rattle.convert.specs.Ceiling.{Figures, ceiling-of, ceiling-told};
 ghost use Rattle.convert.specs.Gather.{gathered-in, unanswered-as, finished-as, finished-out, converted-of, refused-at-once};
 
 // What converting comes to: the refusal or 0, the steps reported, the answer's length.
@@ -333,4 +335,55 @@ pub fn convert<'a>(
     }
     let walked = run(item, code, a, v, s, budget, out, scratch);
     finish(walked, out, scratch)
+}
+
+// What the ceiling of a conversion comes to: the most steps that it can take, or the refusal before the run.
+pub enum Bound {
+    Most(u64),
+    Refused(u64),
+}
+
+// "1,025 + R" and "4,097": what an attribute load costs at most beside the record's length, and what any other step costs at most.
+const LOAD_MOST: u64 = 1 + Limit::ENTRY as u64;
+
+const OTHER_MOST: u64 = 1 + 4 * Limit::ENTRY as u64;
+
+// How many of the bytes part elements: 252 or 253. No early exit, so that it is compiled to SIMD.
+fn inner_marks(text: &[u8]) -> u64
+    ensures { λ r. ⌜ r ≡ inner-marks (now (text .entry)) ⌝ }
+{
+    let mut n = 0;
+    let mut i = 0;
+    while i < text.len() {
+        let b = text[i];
+        i += 1;
+        if (b == Mark::SUBVALUE) | (b == Mark::VALUE) {
+            n += 1;
+        }
+    }
+    n
+}
+
+// "Ceiling: with A attribute loads and B other steps in the string, record length R and m elements, m x (A x (1,025 + R) + B x 4,097)."
+fn most_steps(m: u64, loads: u64, others: u64, size: u64) -> u64
+    requires { ⌜ Figures m loads others size ⌝ }
+    ensures { λ r. ⌜ r ≡ ceiling loads others size m ⌝ }
+{
+    m * (loads * (LOAD_MOST + size) + others * OTHER_MOST)
+}
+
+// The ceiling of a conversion, worked out before it. The refusals are those that converting tries before its run, but for the scratch, which no ceiling asks for.
+pub fn ceiling(item: &[u8], code: &[u8], a: u64, v: u64, s: u64) -> Bound
+    ensures { λ r. ⌜ r ≡ ceiling-told (ceiling-of (now (item .entry)) (now (code .entry)) a v s) ⌝ }
+{
+    let refused = records::lawful_find(item, a, v, s);
+    if refused != 0 {
+        return Bound::Refused(refused);
+    }
+    let verdict = grammar::check(code);
+    let Verdict::Accepted { loads, others } = verdict else {
+        return Bound::Refused(refusal_in(verdict));
+    };
+    let m = 1 + inner_marks(records::part(item, a, v, s));
+    Bound::Most(most_steps(m, loads, others, item.len() as u64))
 }

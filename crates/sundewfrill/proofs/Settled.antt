@@ -5,6 +5,7 @@ use contract.Lifetimes.{Lfts}
 use Rattle.sundewfrill.proofs.sundewfrill_find.Reads as find
 use Rattle.sundewfrill.proofs.sundewfrill_replace.Reads as replace
 use Rattle.sundewfrill.proofs.sundewfrill_check.Reads as check
+use Rattle.sundewfrill.proofs.sundewfrill_ceiling.Reads as ceiling
 use Rattle.sundewfrill.proofs.sundewfrill_convert.Reads as convert
 use Rattle.sundewfrill.proofs.sundewfrill_typed_date.Reads as typed-date
 
@@ -32,6 +33,11 @@ check-settled : (κs : Lfts 4) → (a : _) (r r′ : _) (e e′ : _) → check.P
     × (e .1 .1 .1 .0 .now ≡ e′ .1 .1 .1 .0 .now)
 check-settled κs a r r′ e e′ p q =
     (p .0 ∙ sym (q .0), p .1 .0 ∙ sym (q .1 .0), p .1 .1 .0 ∙ sym (q .1 .1 .0), p .1 .1 .1 ∙ sym (q .1 .1 .1))
+
+-- ceiling
+ceiling-settled : (κs : Lfts 3) → (a : _) (r r′ : _) (e e′ : _) → ceiling.Post κs a r e → ceiling.Post κs a r′ e′
+    → (r ≡ r′) × (e .1 .1 .1 .1 .1 .0 .now ≡ e′ .1 .1 .1 .1 .1 .0 .now)
+ceiling-settled κs a r r′ e e′ p q = (p .0 ∙ sym (q .0), p .1 ∙ sym (q .1))
 
 -- steps, length, output, scratch
 convert-settled : (κs : Lfts 5) → (a : _) (r r′ : _) (e e′ : _) → convert.Post κs a r e → convert.Post κs a r′ e′

@@ -19,12 +19,15 @@ use Rattle.grammar.specs.declared.Verdict.{Verdict}
 use Rattle.dates.specs.Dated.{typed-of}
 use Rattle.dates.specs.declared.TypedDay.{TypedDay}
 use Rattle.convert.specs.Gather.{converted-of}
+use Rattle.convert.specs.Ceiling.{ceiling-told}
+use Rattle.convert.specs.declared.Bound.{Bound}
 use Rattle.convert.specs.declared.Converted.{Converted}
 use Rattle.sundewfrill.specs.declared.Finding.{Finding}
 use Rattle.sundewfrill.specs.declared.Replacing.{Replacing}
 use Rattle.sundewfrill.specs.declared.Checking.{Checking}
+use Rattle.sundewfrill.specs.declared.Capping.{Capping}
 use Rattle.sundewfrill.specs.declared.Dating.{Dating}
-use Rattle.sundewfrill.specs.Numbers.{found-number, start-number, part-length, answer-length, sign-number, size-number, finding-in, replacing-in, checking-in, dating-in}
+use Rattle.sundewfrill.specs.Numbers.{found-number, start-number, part-length, answer-length, ceiling-number, sign-number, size-number, finding-in, replacing-in, checking-in, capping-in, dating-in}
 
 found-case : (r : Res (Option Part)) → finding-in (found-of r)
     ≡ record { number = refusal-of r; found = found-number r; start = start-number r; length = part-length r }
@@ -74,6 +77,17 @@ converted-told o e = (
   ap (λ (x : Converted). x .number) (e .0),
   (ap (λ (x : Converted). x .steps) (e .0), (ap (λ (x : Converted). x .length) (e .0), e .1)),
 )
+
+capped-case : (r : Res ℕ) → capping-in (ceiling-told r) ≡ record { number = refusal-of r; ceiling = ceiling-number r }
+unfolding capping-in ceiling-told ceiling-number
+capped-case (given n) = refl
+capped-case (refused n) = refl
+
+pub capped-told : (r : Res ℕ) {b : Bound} {t : Capping} → b ≡ ceiling-told r → t ≡ capping-in b
+    → (t .number ≡ refusal-of r) × (t .ceiling ≡ ceiling-number r)
+capped-told r e h =
+    let q = h ∙ ap capping-in e ∙ capped-case r in
+    (ap (λ (x : Capping). x .number) q, ap (λ (x : Capping). x .ceiling) q)
 
 -- the code's bool as a number is the sign
 pub day-case : (negative : Bool) (size : ℕ) → record { number = 0; negative = boolByte negative; size = size } ≡ dating-in (TypedDay.Day negative size)

@@ -12,10 +12,12 @@ use Rattle.paper.specs.declared.Given.{Given}
 use Rattle.grammar.specs.Checking.{report-in}
 use Rattle.records.specs.declared.Found.{Found}
 use Rattle.grammar.specs.declared.Verdict.{Verdict}
+use Rattle.convert.specs.declared.Bound.{Bound}
 use Rattle.dates.specs.declared.TypedDay.{TypedDay}
 use Rattle.sundewfrill.specs.declared.Finding.{Finding}
 use Rattle.sundewfrill.specs.declared.Replacing.{Replacing}
 use Rattle.sundewfrill.specs.declared.Checking.{Checking}
+use Rattle.sundewfrill.specs.declared.Capping.{Capping}
 use Rattle.sundewfrill.specs.declared.Dating.{Dating}
 
 -- "The answer of finding is "found" or "missing"": 1 or 0
@@ -37,6 +39,11 @@ part-length r = length (extract r)
 -- how many bytes of the output are the answer
 unfoldable pub answer-length : Res Bytes → ℕ
 answer-length r = length (answer-of r)
+
+-- the most steps that a conversion can take
+unfoldable pub ceiling-number : Res ℕ → ℕ
+ceiling-number (given n) = n
+ceiling-number (refused n) = 0
 
 -- a day's sign, 1 before day 0
 unfoldable pub sign-number : Res Number → ℕ
@@ -60,6 +67,10 @@ replacing-in g = record { number = refusal-in g; length = length-in g }
 unfoldable pub checking-in : Verdict → Checking
 checking-in v =
     record { number = report-in v .refusal; code = report-in v .code-number; loads = report-in v .loads; others = report-in v .others }
+
+unfoldable pub capping-in : Bound → Capping
+capping-in (Bound.Most n) = record { number = 0; ceiling = n }
+capping-in (Bound.Refused n) = record { number = n; ceiling = 0 }
 
 unfoldable pub dating-in : TypedDay → Dating
 dating-in (TypedDay.Day negative size) = record { number = 0; negative = if negative then 1 else 0; size = size }

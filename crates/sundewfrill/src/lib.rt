@@ -1,6 +1,7 @@
-// The five calls of document 01 for hosts in other languages, through plain numbers and byte slices.
+// The six calls for hosts in other languages, through plain numbers and byte slices: document 01's five, and its ceiling.
 // Each returns the refusal's number, 0 for none; what else it gives goes behind the references, which it always writes.
 // They take any input and have no `requires`; the work is done by the crates below, whose answers are turned into numbers here.
+use convert::Bound;
 use dates::TypedDay;
 use grammar::Verdict;
 use paper::Given;
@@ -10,16 +11,19 @@ ghost use Rattle.paper.specs.Refusals.{refusal-of};
 ghost use Rattle.paper.specs.Records.{find};
 ghost use Rattle.paper.specs.Checking.{check, report};
 ghost use Rattle.paper.specs.TypedDates.{typed-date};
+ghost use Rattle.convert.specs.Ceiling.{ceiling-of};
 ghost use Rattle.sundewfrill.specs.Numbers.{
   found-number,
   start-number,
   part-length,
   answer-length,
+  ceiling-number,
   sign-number,
   size-number,
   finding-in,
   replacing-in,
   checking-in,
+  capping-in,
   dating-in,
 };
 ghost use Rattle.sundewfrill.specs.Calls.{replaced, converted, replaced-output, converted-output, converted-scratch};
@@ -44,6 +48,12 @@ struct Checking {
     code: u64,
     loads: u64,
     others: u64,
+}
+
+// What the ceiling gives, in numbers.
+struct Capping {
+    number: u64,
+    ceiling: u64,
 }
 
 // What a typed date gives, in numbers.
@@ -109,6 +119,16 @@ fn of_verdict(verdict: Verdict) -> Checking
             loads: 0,
             others: 0,
         },
+    }
+}
+
+// The ceiling, 0 on a refusal.
+fn of_bound(bound: Bound) -> Capping
+    ensures { λ r. ⌜ r ≡ capping-in bound ⌝ }
+{
+    match bound {
+        Bound::Most(ceiling) => Capping { number: 0, ceiling },
+        Bound::Refused(number) => Capping { number, ceiling: 0 },
     }
 }
 
@@ -190,6 +210,24 @@ pub extern "C" fn sundewfrill_check(
     *code_number = told.code;
     *loads = told.loads;
     *others = told.others;
+    told.number
+}
+
+// "Ceiling: with A attribute loads and B other steps in the string, record length R and m elements": 1 to 7 as converting tries them.
+#[no_mangle]
+pub extern "C" fn sundewfrill_ceiling(
+    item: &[u8],
+    code: &[u8],
+    a: u64,
+    v: u64,
+    s: u64,
+    ceiling: &mut u64,
+) -> u64
+    ensures { λ r. ⌜ r ≡ refusal-of (ceiling-of (now (item .entry)) (now (code .entry)) a v s) ⌝ }
+    ensures { λ _. ⌜ now (ceiling .exit) ≡ ceiling-number (ceiling-of (now (item .entry)) (now (code .entry)) a v s) ⌝ }
+{
+    let told = of_bound(convert::ceiling(item, code, a, v, s));
+    *ceiling = told.ceiling;
     told.number
 }
 

@@ -1,0 +1,27 @@
+-- The ceiling as a call. The paper does not list this call; its number the paper defines: "Ceiling: with A attribute loads and B other steps ..".
+use Prim.Native.Nat.{ℕ, _+_, _≤_}
+use lib.ListN.{length}
+use Rattle.paper.specs.Bytes.{Bytes}
+use Rattle.paper.specs.Sizes.{record-most}
+use Rattle.paper.specs.Refusals.{Res, given, refused, _>>=_, _>>_}
+use Rattle.paper.specs.Checking.{check, checked-codes, attribute-loads, other-steps}
+use Rattle.paper.specs.Converting.{elements, lawful-place, ceiling}
+use Rattle.convert.specs.declared.Bound.{Bound}
+
+-- the refusals that converting tries before its run, but for the scratch, which no ceiling asks for; then "m x (A x (1,025 + R) + B x 4,097)"
+unfoldable pub ceiling-of : Bytes → Bytes → ℕ → ℕ → ℕ → Res ℕ
+ceiling-of item string a v s = do
+  lawful-place item a v s
+  cs ← checked-codes (check string)
+  given (ceiling (attribute-loads cs) (other-steps cs) (length item) (length (elements item a v s)))
+
+-- the call's answer: the number or the refusal of each case
+unfoldable pub ceiling-told : Res ℕ → Bound
+ceiling-told (given n) = Bound.Most n
+ceiling-told (refused n) = Bound.Refused n
+
+-- figures with which no product of the ceiling wraps: m of a record, A and B of an accepted string, R
+pub record Figures (m loads others size : ℕ) : Type 0 where
+  pub elements : m ≤ 1 + record-most
+  pub steps : loads + others ≤ 256
+  pub record-fits : size ≤ record-most
