@@ -13,9 +13,8 @@ use Rattle.paper.specs.Sizes.{entry-most, stack-most}
 use Rattle.paper.specs.Refusals.{Res, given, refused, _>>=_, _>>_}
 use Rattle.paper.specs.Numbers.{Binary, binary-gives, substring-gives}
 use Rattle.paper.specs.Codes.{Conversion, Repeat, Operand, Elm}
-use Rattle.paper.specs.Checking.{shape, stacked}
+use Rattle.paper.specs.Checking.{shape, stacked, Room}
 use Rattle.paper.specs.Steps.{Setting, operand, conversion-gives, bytes-in, price, limited, elm-puts, elm-step}
-use Rattle.paper.proofs.Stack.{Room}
 use Rattle.machine.specs.Slots.{element-slot, entry-at, stack-of, Slotted}
 use Rattle.codes.specs.declared.Operand.{Operand as Pushed}
 use Rattle.codes.specs.declared.Operator.{Operator as Operated}

@@ -12,12 +12,11 @@ use Rattle.paper.specs.Bytes.{Bytes, if_then_else_}
 use Rattle.paper.specs.Sizes.{entry-most, stack-most}
 use Rattle.paper.specs.Refusals.{Res, given, refused, _>>=_, _>>_, refuse_unless_, over-budget}
 use Rattle.paper.specs.Codes.{Operand, Elm}
-use Rattle.paper.specs.Checking.{shape, stacked, all-stacked}
+use Rattle.paper.specs.Checking.{shape, stacked, all-stacked, Room}
 use Rattle.paper.specs.Steps.{Setting, Run, step, stepped, elm-step, elms-run, top-entry}
 use Rattle.paper.specs.Converting.{Outcome, within-budget}
 use Rattle.paper.proofs.Predicates.{held, All, none-of, and-all}
 use Rattle.paper.proofs.Entries.{Fit, steps-within}
-use Rattle.paper.proofs.Stack.{Room}
 use Rattle.codes.specs.declared.Elm.{Elm as Coded}
 use Rattle.codes.specs.Meaning.{elm-of}
 use Rattle.grammar.specs.Places.{byte-at, after, Peeked}

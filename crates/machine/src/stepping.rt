@@ -12,7 +12,7 @@ ghost use Prim.Native.Nat.{_+_, _≤_, _<_};
 ghost use lib.ListN.{length};
 ghost use Rattle.paper.specs.Sizes.{entry-most, record-most, stack-most};
 ghost use Rattle.paper.specs.Refusals.{given};
-ghost use Rattle.paper.proofs.Stack.{Room};
+ghost use Rattle.paper.specs.Checking.{Room};
 ghost use Rattle.codes.specs.Meaning.{operator-of, conversion-of, elm-of};
 ghost use Rattle.machine.specs.Slots.{entry-at, Slotted, Lent};
 ghost use Rattle.machine.specs.Bounds.{Operand-within, Operator-within, Conversion-within, Elm-within};

@@ -15,14 +15,10 @@ use Rattle.paper.specs.Refusals.{Res, given, refused, _>>=_, _>>_, refus
 use Rattle.paper.specs.Codes.{Operand, Elm, Code, Conversion}
 use Rattle.paper.specs.Grammar.{Reader, this, parted, elm, elms, conversion, function-code, code, all-read, read}
 use Rattle.paper.specs.Checking.{shape, stacked, all-stacked, lawful, in-grammar, judged, Checked, accepted, faulty, in-turn, judged-all, code-texts, check}
+pub use Rattle.paper.specs.Checking.{Room}
 use Rattle.paper.specs.Steps.{Setting, elm-step}
 use Rattle.paper.proofs.Predicates.{Holds, holds, refuses, holds-then, holds-next, Reads, reads, reads-not, reads-then, reads-after, reads-ahead, All, none-of, and-all}
 use Rattle.paper.proofs.Entries.{Fit, Stepped, steps-within}
-
--- an elm of this shape can be applied to so many entries
-pub record Room (e : Elm) (entries : ℕ) : Type 0 where
-  pub enough : shape e .takes ≤ entries
-  pub not-too-many : entries - shape e .takes + shape e .puts ≤ stack-most
 
 -- The run of elms from a stack, at each of them: it finds its entries and leaves at most 16, whether it then refuses or goes on; and an
 -- entry is there at the end.

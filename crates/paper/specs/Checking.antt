@@ -1,5 +1,5 @@
 -- Document 01, "The code grammar" and "Steps" (A and B): checking a code string.
-use Prim.Native.Nat.{ℕ, suc, _+_, _-_}
+use Prim.Native.Nat.{ℕ, suc, _+_, _-_, _≤_}
 use mathlib.Core.Bool.{Bool, true, false}
 use mathlib.Core.List.{List, [], _∷_}
 use mathlib.Core.Option.{Option, none, some}
@@ -35,6 +35,11 @@ shape Elm.substring = shaped 3 1 false
 shape Elm.exchange = shaped 2 2 false
 shape Elm.duplicate = shaped 1 2 false
 shape (Elm.convert c) = shaped 1 1 false
+
+-- an elm of this shape can be applied to so many entries
+pub record Room (e : Elm) (entries : ℕ) : Type 0 where
+  pub enough : shape e .takes ≤ entries
+  pub not-too-many : entries - shape e .takes + shape e .puts ≤ stack-most
 
 -- refusal 7: "an F code takes more entries than are there, or would hold 17"; the entries after an elm
 unfoldable pub stacked : Elm → ℕ → Res ℕ
