@@ -66,11 +66,11 @@ module _ (s : Bytes) where
   reads : Agree (λ (p : Address). p) s 0 (address s 0) (address-form s)
   reads = address-agrees .at 0 (omega arith) (omega arith)
 
-  pub address-none : address s 0 ≡ none → ReadAddress.Bad ≡ address-read (paper.all-read (address-form s))
+  pub address-none : address s 0 ≡ none → ReadAddress.Refused 4 ≡ address-read (paper.all-read (address-form s))
   unfolding address-read
   address-none e = go reads e
     where
-      go : {x : Option (Address × ℕ)} {y : Option (Address × Bytes)} → Agree (λ (p : Address). p) s 0 x y → x ≡ none → ReadAddress.Bad ≡ address-read (paper.all-read y)
+      go : {x : Option (Address × ℕ)} {y : Option (Address × Bytes)} → Agree (λ (p : Address). p) s 0 x y → x ≡ none → ReadAddress.Refused 4 ≡ address-read (paper.all-read y)
       go neither e = refl
       go (both p n l u) e = absurd (none-some e refl)
 
@@ -89,7 +89,7 @@ module _ (s : Bytes) where
     unfolding address-read
     address-whole h = rw (form-is .1, eq-eqb (length (drop n s)) 0 (omega (arith, length-drop n s)))
 
-    pub address-left : (n ≡ length s → ⊥) → ReadAddress.Bad ≡ address-read (paper.all-read (address-form s))
+    pub address-left : (n ≡ length s → ⊥) → ReadAddress.Refused 4 ≡ address-read (paper.all-read (address-form s))
     unfolding address-read
     address-left h =
         let w = form-is .0 in

@@ -84,9 +84,9 @@ module _ (s : Bytes) (c : codes.Code) (e : paper.read s ≡ some c) where
       go true f = let z : _≡_ {A = ℕ} 0 1 = cc (marks-read s f) in absurd (omega arith)
       go false f = f
 
-  by-head : (h : Head) → head s ≡ h → read-by s h ≡ some c → 2 * (code-count true c + code-count false c) ≤ length s + 1
+  by-head : (h : Option Head) → head s ≡ h → read-by s h ≡ some c → 2 * (code-count true c + code-count false c) ≤ length s + 1
   unfolding code-count
-  by-head (Head.Function first) f g = go (elms-from s first) refl g
+  by-head (some (Head.Function first)) f g = go (elms-from s first) refl g
     where
       go : (o : Option (List codes.Elm)) → elms-from s first ≡ o → functioned o ≡ some c → 2 * (code-count true c + code-count false c) ≤ length s + 1
       go none k l = let z : _≡_ {A = ℕ} 0 1 = cc in absurd (omega arith)
@@ -94,8 +94,8 @@ module _ (s : Bytes) (c : codes.Code) (e : paper.read s ≡ some c) where
           let q : codes.function es ≡ c = cc in
           let w = elms-sized s first es k in
           rw (← q) (omega (arith, elms-together es, length-drop first s))
-  by-head (Head.Single d) f g = let q : codes.single (conversion-of d) ≡ c = cc in rw (← q) (omega (arith, some-byte s c e))
-  by-head Head.Bad f g = let z : _≡_ {A = ℕ} 0 1 = cc in absurd (omega arith)
+  by-head (some (Head.Single d)) f g = let q : codes.single (conversion-of d) ≡ c = cc in rw (← q) (omega (arith, some-byte s c e))
+  by-head none f g = let z : _≡_ {A = ℕ} 0 1 = cc in absurd (omega arith)
 
   pub code-sized : 2 * (code-count true c + code-count false c) ≤ length s + 1
   code-sized = by-head (head s) refl (sym (head-reads s unmarked) ∙ e)

@@ -78,10 +78,10 @@ abbrev pub functioned : Option (List codes.Elm) → Option codes.Code
 functioned none = none
 functioned (some es) = some (codes.function es)
 
-abbrev pub read-by : Bytes → Head → Option codes.Code
-read-by s (Head.Function first) = functioned (elms-from s first)
-read-by s (Head.Single c) = some (codes.single (conversion-of c))
-read-by s Head.Bad = none
+abbrev pub read-by : Bytes → Option Head → Option codes.Code
+read-by s (some (Head.Function first)) = functioned (elms-from s first)
+read-by s (some (Head.Single c)) = some (codes.single (conversion-of c))
+read-by s none = none
 
 -- all of the bytes: none are left, or the place is their end
 left-none : (s : Bytes) (n : ℕ) → n ≤ length s → eqb (length (drop n s)) 0 ≡ eqb n (length s)
@@ -98,7 +98,7 @@ single-reads s = go (conversion-reads s 0 (omega arith))
     go neither = refl
     go (both c n l u) = rw (left-none s n u) (pick (eqb n (length s)))
       where
-        pick : (t : Bool) → (if t then some (codes.single (conversion-of c)) else none) ≡ read-by s (if t then Head.Single c else Head.Bad)
+        pick : (t : Bool) → (if t then some (codes.single (conversion-of c)) else none) ≡ read-by s (if t then some (Head.Single c) else none)
         pick true = refl
         pick false = refl
 
@@ -115,16 +115,16 @@ unfolding paper.code paper.function-code paper.this head byte-at elms-from
 code-reads [] = single-reads []
 code-reads (b ∷ []) = go (eqb 70 b)
   where
-    go : (t : Bool) → paper.all-read (if t then none else paper.follow (paper.conversion (b ∷ [])) (λ c. paper.gives (codes.single c))) ≡ read-by (b ∷ []) (if t then Head.Bad else whole 1 (place.conversion (b ∷ []) 0))
+    go : (t : Bool) → paper.all-read (if t then none else paper.follow (paper.conversion (b ∷ [])) (λ c. paper.gives (codes.single c))) ≡ read-by (b ∷ []) (if t then none else whole 1 (place.conversion (b ∷ []) 0))
     go true = refl
     go false = single-reads (b ∷ [])
 code-reads (b ∷ c ∷ s) = go (eqb 70 b)
   where
-    parted : (t : Bool) → paper.all-read (paper.follow (if t then some (tt {0}, s) else none) (λ _ bs. paper.follow (paper.elms bs) (λ es. paper.gives (codes.function es)))) ≡ read-by (b ∷ c ∷ s) (if t then Head.Function 2 else Head.Bad)
+    parted : (t : Bool) → paper.all-read (paper.follow (if t then some (tt {0}, s) else none) (λ _ bs. paper.follow (paper.elms bs) (λ es. paper.gives (codes.function es)))) ≡ read-by (b ∷ c ∷ s) (if t then some (Head.Function 2) else none)
     parted true = function-reads (paper.elms s)
     parted false = refl
 
-    go : (t : Bool) → paper.all-read (if t then paper.function-code (c ∷ s) else paper.follow (paper.conversion (b ∷ c ∷ s)) (λ c. paper.gives (codes.single c))) ≡ read-by (b ∷ c ∷ s) (if t then (if eqb 59 c then Head.Function 2 else Head.Bad) else whole (length (b ∷ c ∷ s)) (place.conversion (b ∷ c ∷ s) 0))
+    go : (t : Bool) → paper.all-read (if t then paper.function-code (c ∷ s) else paper.follow (paper.conversion (b ∷ c ∷ s)) (λ c. paper.gives (codes.single c))) ≡ read-by (b ∷ c ∷ s) (if t then (if eqb 59 c then some (Head.Function 2) else none) else whole (length (b ∷ c ∷ s)) (place.conversion (b ∷ c ∷ s) 0))
     go true = parted (eqb 59 c)
     go false = single-reads (b ∷ c ∷ s)
 
@@ -138,25 +138,25 @@ unfolding paper.read
 marks-read s e = rw e
 
 -- the place of the first elm
-whole-other : (size : ℕ) (o : Option (Conversion × ℕ)) (first : ℕ) → whole size o ≡ Head.Function first → ⊥
+whole-other : (size : ℕ) (o : Option (Conversion × ℕ)) (first : ℕ) → whole size o ≡ some (Head.Function first) → ⊥
 whole-other size none first e = let z : _≡_ {A = ℕ} 0 1 = cc in omega arith
 whole-other size (some r) first e = go (eqb (r .1) size) e
   where
-    go : (t : Bool) → (if t then Head.Single (r .0) else Head.Bad) ≡ Head.Function first → ⊥
+    go : (t : Bool) → (if t then some (Head.Single (r .0)) else none) ≡ some (Head.Function first) → ⊥
     go true e = let z : _≡_ {A = ℕ} 0 1 = cc in omega arith
     go false e = let z : _≡_ {A = ℕ} 0 1 = cc in omega arith
 
-pub head-first : (s : Bytes) (first : ℕ) → head s ≡ Head.Function first → (first ≡ 2) × (2 ≤ length s)
+pub head-first : (s : Bytes) (first : ℕ) → head s ≡ some (Head.Function first) → (first ≡ 2) × (2 ≤ length s)
 unfolding head byte-at
 head-first [] first e = absurd (whole-other 0 (place.conversion [] 0) first e)
 head-first (b ∷ []) first e = absurd (go (eqb 70 b) e)
   where
-    go : (t : Bool) → (if t then Head.Bad else whole 1 (place.conversion (b ∷ []) 0)) ≡ Head.Function first → ⊥
+    go : (t : Bool) → (if t then none else whole 1 (place.conversion (b ∷ []) 0)) ≡ some (Head.Function first) → ⊥
     go true e = let z : _≡_ {A = ℕ} 0 1 = cc in omega arith
     go false e = whole-other 1 (place.conversion (b ∷ []) 0) first e
 head-first (b ∷ c ∷ s) first e = (go (eqb 70 b) (eqb 59 c) e, omega arith)
   where
-    go : (t u : Bool) → (if t then (if u then Head.Function 2 else Head.Bad) else whole (length (b ∷ c ∷ s)) (place.conversion (b ∷ c ∷ s) 0)) ≡ Head.Function first → first ≡ 2
+    go : (t u : Bool) → (if t then (if u then some (Head.Function 2) else none) else whole (length (b ∷ c ∷ s)) (place.conversion (b ∷ c ∷ s) 0)) ≡ some (Head.Function first) → first ≡ 2
     go true true e = cc
     go true false e = let z : _≡_ {A = ℕ} 0 1 = cc in absurd (omega arith)
     go false u e = absurd (whole-other (length (b ∷ c ∷ s)) (place.conversion (b ∷ c ∷ s) 0) first e)
@@ -183,17 +183,17 @@ module _ (s : Bytes) where
   unfolding judging judged-of
   judged-marked e = sym (judging-is s ∙ ap judging (marks-read s e))
 
-  module _ (e : any is-mark s ≡ false) {h : Head} (f : h ≡ head s) where
-    by-head : judged-of (judged s) ≡ judging (read-by s h)
-    by-head = judging-is s ∙ ap judging (head-reads s e ∙ ap (read-by s) (sym f))
+  module _ (e : any is-mark s ≡ false) where
+    by-head : {h : Option Head} → head s ≡ h → judged-of (judged s) ≡ judging (read-by s h)
+    by-head f = judging-is s ∙ ap judging (head-reads s e ∙ ap (read-by s) f)
 
-    pub judged-function : {first : ℕ} → h ≡ Head.Function first → finished (elms-from s first) 0 0 0 ≡ judged-of (judged s)
-    judged-function {first} k = sym (by-head ∙ ap (λ (x : Head). judging (read-by s x)) k ∙ judging-elms (elms-from s first))
+    pub judged-function : {first : ℕ} → head s ≡ some (Head.Function first) → finished (elms-from s first) 0 0 0 ≡ judged-of (judged s)
+    judged-function {first} f = sym (by-head f ∙ judging-elms (elms-from s first))
 
-    pub judged-single : {c : Conversion} → h ≡ Head.Single c → Judged.Lawful 0 1 ≡ judged-of (judged s)
+    pub judged-single : {c : Conversion} → head s ≡ some (Head.Single c) → Judged.Lawful 0 1 ≡ judged-of (judged s)
     unfolding judging judged-of lawful code-count
-    judged-single k = sym (by-head ∙ ap (λ (x : Head). judging (read-by s x)) k)
+    judged-single f = sym (by-head f)
 
-    pub judged-bad : h ≡ Head.Bad → Judged.Faulty 6 ≡ judged-of (judged s)
+    pub judged-bad : head s ≡ none → Judged.Faulty 6 ≡ judged-of (judged s)
     unfolding judging judged-of
-    judged-bad k = sym (by-head ∙ ap (λ (x : Head). judging (read-by s x)) k)
+    judged-bad f = sym (by-head f)

@@ -1,4 +1,5 @@
 pub mod Bytes
+pub mod Answering
 pub mod Taken
 pub mod Separators
 pub mod Lines

@@ -11,17 +11,7 @@ use native.Mathlib.Numerals.{sub-one}
 use native.Mathlib.Omega.{arith}
 use borrow.Author.Tests.{eq-eqb, ne-eqb}
 use Rattle.paper.specs.Bytes.{Bytes, if_then_else_, is-digit, digit-value}
-use Rattle.codes.specs.declared.Fill.{Fill}
-use Rattle.codes.specs.declared.Plain.{Plain}
-use Rattle.codes.specs.declared.Conversion.{Conversion}
-use Rattle.codes.specs.declared.Elm.{Elm}
 use Rattle.grammar.specs.Places.{Placed, Peeked, byte-at, after, choose-or, this, flag, digit, more-digits, numeral}
-use Rattle.grammar.specs.Reading.{plained}
-use Rattle.grammar.specs.Answers.{num-read, fill-read, conversion-read, elm-read}
-use Rattle.grammar.specs.declared.ReadNum.{ReadNum}
-use Rattle.grammar.specs.declared.ReadFill.{ReadFill}
-use Rattle.grammar.specs.declared.ReadConversion.{ReadConversion}
-use Rattle.grammar.specs.declared.ReadElm.{ReadElm}
 use Rattle.paper.proofs.Ranges.{ltb-or, within-yes, within-below, within-above}
 
 -- the reader that a byte names, and whether it names one
@@ -73,109 +63,6 @@ this-yes {s} {at} {b} {n} {c} p e = rw (← p .stands, ← p .leads, eq-eqb c b 
 pub this-no : {s : Bytes} {at b n c : ℕ} → Peeked s at b n → (b ≡ c → ⊥) → this c s at ≡ none
 unfolding this choose-or
 this-no {s} {at} {b} {n} {c} p e = rw (← p .stands, ne-eqb c b (λ z. e (sym z)))
-
--- An answer of the code and what the reader gives, each from the other.
-answers : {R A : Type 0} (inn : R → A) (read : A → R) → ((o : A) → inn (read o) ≡ o) → (r x : R) (o : A) → r ≡ read o → r ≡ x → o ≡ inn x
-answers inn read back r x o e f = sym (back o) ∙ ap inn (sym e ∙ f)
-
-abbrev pub num-in : ReadNum → Option (ℕ × ℕ)
-num-in ReadNum.Bad = none
-num-in (ReadNum.Num thing next) = some (thing, next)
-
-num-back : (o : Option (ℕ × ℕ)) → num-in (num-read o) ≡ o
-unfolding num-read
-num-back none = refl
-num-back (some r) = refl
-
-pub num-is : {r x : ReadNum} {o : Option (ℕ × ℕ)} → r ≡ num-read o → r ≡ x → o ≡ num-in x
-num-is {r} {x} {o} e f = answers num-in num-read num-back r x o e f
-
-pub num-none : {o : Option (ℕ × ℕ)} → o ≡ none → ReadNum.Bad ≡ num-read o
-unfolding num-read
-num-none e = sym (ap num-read e)
-
-pub num-some : {o : Option (ℕ × ℕ)} {thing : ℕ} {next : ℕ} → o ≡ some (thing, next) → ReadNum.Num thing next ≡ num-read o
-unfolding num-read
-num-some e = sym (ap num-read e)
-
-abbrev pub fill-in : ReadFill → Option (Fill × ℕ)
-fill-in ReadFill.Bad = none
-fill-in (ReadFill.Fill thing next) = some (thing, next)
-
-fill-back : (o : Option (Fill × ℕ)) → fill-in (fill-read o) ≡ o
-unfolding fill-read
-fill-back none = refl
-fill-back (some r) = refl
-
-pub fill-is : {r x : ReadFill} {o : Option (Fill × ℕ)} → r ≡ fill-read o → r ≡ x → o ≡ fill-in x
-fill-is {r} {x} {o} e f = answers fill-in fill-read fill-back r x o e f
-
-pub fill-none : {o : Option (Fill × ℕ)} → o ≡ none → ReadFill.Bad ≡ fill-read o
-unfolding fill-read
-fill-none e = sym (ap fill-read e)
-
-pub fill-some : {o : Option (Fill × ℕ)} {thing : Fill} {next : ℕ} → o ≡ some (thing, next) → ReadFill.Fill thing next ≡ fill-read o
-unfolding fill-read
-fill-some e = sym (ap fill-read e)
-
-abbrev pub conversion-in : ReadConversion → Option (Conversion × ℕ)
-conversion-in ReadConversion.Bad = none
-conversion-in (ReadConversion.Conversion thing next) = some (thing, next)
-
-conversion-back : (o : Option (Conversion × ℕ)) → conversion-in (conversion-read o) ≡ o
-unfolding conversion-read
-conversion-back none = refl
-conversion-back (some r) = refl
-
-pub conversion-is : {r x : ReadConversion} {o : Option (Conversion × ℕ)} → r ≡ conversion-read o → r ≡ x → o ≡ conversion-in x
-conversion-is {r} {x} {o} e f = answers conversion-in conversion-read conversion-back r x o e f
-
-pub conversion-none : {o : Option (Conversion × ℕ)} → o ≡ none → ReadConversion.Bad ≡ conversion-read o
-unfolding conversion-read
-conversion-none e = sym (ap conversion-read e)
-
-pub conversion-some : {o : Option (Conversion × ℕ)} {thing : Conversion} {next : ℕ} → o ≡ some (thing, next) → ReadConversion.Conversion thing next ≡ conversion-read o
-unfolding conversion-read
-conversion-some e = sym (ap conversion-read e)
-
-abbrev pub elm-in : ReadElm → Option (Elm × ℕ)
-elm-in ReadElm.Bad = none
-elm-in (ReadElm.Elm thing next) = some (thing, next)
-
-elm-back : (o : Option (Elm × ℕ)) → elm-in (elm-read o) ≡ o
-unfolding elm-read
-elm-back none = refl
-elm-back (some r) = refl
-
-pub elm-is : {r x : ReadElm} {o : Option (Elm × ℕ)} → r ≡ elm-read o → r ≡ x → o ≡ elm-in x
-elm-is {r} {x} {o} e f = answers elm-in elm-read elm-back r x o e f
-
-pub elm-none : {o : Option (Elm × ℕ)} → o ≡ none → ReadElm.Bad ≡ elm-read o
-unfolding elm-read
-elm-none e = sym (ap elm-read e)
-
-pub elm-some : {o : Option (Elm × ℕ)} {thing : Elm} {next : ℕ} → o ≡ some (thing, next) → ReadElm.Elm thing next ≡ elm-read o
-unfolding elm-read
-elm-some e = sym (ap elm-read e)
-
-pub plain-none : {x : Option (Plain × ℕ)} → x ≡ none → ReadConversion.Bad ≡ conversion-read (plained x)
-plain-none e = conversion-none (ap plained e)
-
-pub plain-some : {x : Option (Plain × ℕ)} {thing : Plain} {next : ℕ} → x ≡ some (thing, next) → ReadConversion.Conversion (Conversion.Plain thing) next ≡ conversion-read (plained x)
-plain-some e = conversion-some (ap plained e)
-
--- the answer of what reads on is the answer
-pub plain-by : {r : ReadConversion} {x y : Option (Plain × ℕ)} → r ≡ conversion-read (plained y) → x ≡ y → r ≡ conversion-read (plained x)
-plain-by e f = e ∙ sym (ap (λ z. conversion-read (plained z)) f)
-
-pub fill-by : {r : ReadFill} {x y : Option (Fill × ℕ)} → r ≡ fill-read y → x ≡ y → r ≡ fill-read x
-fill-by e f = e ∙ sym (ap fill-read f)
-
-pub elm-by : {r : ReadElm} {x y : Option (Elm × ℕ)} → r ≡ elm-read y → x ≡ y → r ≡ elm-read x
-elm-by e f = e ∙ sym (ap elm-read f)
-
-pub conversion-by : {r : ReadConversion} {x y : Option (Conversion × ℕ)} → r ≡ conversion-read y → x ≡ y → r ≡ conversion-read x
-conversion-by e f = e ∙ sym (ap conversion-read f)
 
 -- a byte that may stand there
 pub flag-on : {s : Bytes} {at b n c : ℕ} → Peeked s at b n → b ≡ c → flag c s at ≡ some (true, n)

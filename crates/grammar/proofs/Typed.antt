@@ -33,21 +33,21 @@ module _ (s text : Bytes) where
     unfolding typed-by typed-of
     typed-marked e = sym (short ∙ ap (λ (o : Option codes.Code). typed-of (typed-by o text)) (marks-read s e))
 
-    module _ (e : any is-mark s ≡ false) {d : Head} (f : d ≡ head s) where
-      by-head : (x : Head) → d ≡ x → typed-of (typed-date s text) ≡ typed-of (typed-by (read-by s x) text)
-      by-head x k = short ∙ ap (λ (o : Option codes.Code). typed-of (typed-by o text)) (head-reads s e ∙ ap (read-by s) (sym f ∙ k))
+    module _ (e : any is-mark s ≡ false) where
+      by-head : {h : Option Head} → head s ≡ h → typed-of (typed-date s text) ≡ typed-of (typed-by (read-by s h) text)
+      by-head f = short ∙ ap (λ (o : Option codes.Code). typed-of (typed-by o text)) (head-reads s e ∙ ap (read-by s) f)
 
-      pub typed-function : {first : ℕ} → d ≡ Head.Function first → TypedDay.Refused 6 ≡ typed-of (typed-date s text)
+      pub typed-function : {first : ℕ} → head s ≡ some (Head.Function first) → TypedDay.Refused 6 ≡ typed-of (typed-date s text)
       unfolding typed-by typed-of
-      typed-function {first} k = sym (by-head (Head.Function first) k ∙ go (elms-from s first))
+      typed-function {first} f = sym (by-head f ∙ go (elms-from s first))
         where
           go : (o : Option (List codes.Elm)) → typed-of (typed-by (functioned o) text) ≡ TypedDay.Refused 6
           go none = refl
           go (some es) = refl
 
-      pub typed-bad : d ≡ Head.Bad → TypedDay.Refused 6 ≡ typed-of (typed-date s text)
+      pub typed-bad : head s ≡ none → TypedDay.Refused 6 ≡ typed-of (typed-date s text)
       unfolding typed-by typed-of
-      typed-bad k = sym (by-head Head.Bad k)
+      typed-bad f = sym (by-head f)
 
-      pub typed-single : {c : Conversion} → d ≡ Head.Single c → typed-of (typed-by (some (codes.single (conversion-of c))) text) ≡ typed-of (typed-date s text)
-      typed-single {c} k = sym (by-head (Head.Single c) k)
+      pub typed-single : {c : Conversion} → head s ≡ some (Head.Single c) → typed-of (typed-by (some (codes.single (conversion-of c))) text) ≡ typed-of (typed-date s text)
+      typed-single f = sym (by-head f)

@@ -30,23 +30,23 @@ use Rattle.grammar.proofs.Counts.{elms-sized, unmarked, code-sized, jud
 
 -- One code: `F` with its elms from place 2 on, or the code that is all of it.
 pub data Headed (s : Bytes) : codes.Code → Type 0 where
-  function-code : (es : List codes.Elm) → head s ≡ Head.Function 2 → 2 ≤ length s → elms-from s 2 ≡ some es → Headed s (codes.function es)
-  single-code : (c : Conversion) → head s ≡ Head.Single c → Headed s (codes.single (conversion-of c))
+  function-code : (es : List codes.Elm) → head s ≡ some (Head.Function 2) → 2 ≤ length s → elms-from s 2 ≡ some es → Headed s (codes.function es)
+  single-code : (c : Conversion) → head s ≡ some (Head.Single c) → Headed s (codes.single (conversion-of c))
 
 pub code-headed : (s : Bytes) (c : codes.Code) → paper.read s ≡ some c → Headed s c
 code-headed s c e = go (head s) refl (sym (head-reads s (unmarked s c e)) ∙ e)
   where
-    elms : (first : ℕ) (o : Option (List codes.Elm)) → head s ≡ Head.Function first → elms-from s first ≡ o → functioned o ≡ some c → Headed s c
+    elms : (first : ℕ) (o : Option (List codes.Elm)) → head s ≡ some (Head.Function first) → elms-from s first ≡ o → functioned o ≡ some c → Headed s c
     elms first none f g k = let z : _≡_ {A = ℕ} 0 1 = cc in absurd (omega arith)
     elms first (some es) f g k =
         let w = head-first s first f in
         let q : codes.function es ≡ c = cc in
-        rw (← q) (function-code es (f ∙ ap Head.Function (w .0)) (w .1) (rw (w .0) at g))
+        rw (← q) (function-code es (f ∙ ap (λ (n : ℕ). some (Head.Function n)) (w .0)) (w .1) (rw (w .0) at g))
 
-    go : (h : Head) → head s ≡ h → read-by s h ≡ some c → Headed s c
-    go (Head.Function first) f g = elms first (elms-from s first) f refl g
-    go (Head.Single d) f g = let q : codes.single (conversion-of d) ≡ c = cc in rw (← q) (single-code d f)
-    go Head.Bad f g = let z : _≡_ {A = ℕ} 0 1 = cc in absurd (omega arith)
+    go : (h : Option Head) → head s ≡ h → read-by s h ≡ some c → Headed s c
+    go (some (Head.Function first)) f g = elms first (elms-from s first) f refl g
+    go (some (Head.Single d)) f g = let q : codes.single (conversion-of d) ≡ c = cc in rw (← q) (single-code d f)
+    go none f g = let z : _≡_ {A = ℕ} 0 1 = cc in absurd (omega arith)
 
 -- Its elms: the last one ends with the code; a semicolon stands behind every other, and the rest behind that.
 pub data Elms (s : Bytes) (at : ℕ) : List codes.Elm → Type 0 where

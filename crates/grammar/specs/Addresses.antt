@@ -2,6 +2,7 @@
 use Prim.Native.Nat.{ℕ}
 use mathlib.Core.Option.{Option, none, some}
 use Rattle.paper.specs.Bytes.{ch}
+use Rattle.paper.specs.Refusals.{bad-address}
 use Rattle.paper.specs.Program.{Address}
 use Rattle.grammar.specs.Places.{Placed, _>>=_, _>>_, gives, this, numeral}
 use Rattle.grammar.specs.declared.ReadAddress.{ReadAddress}
@@ -18,6 +19,7 @@ address = do
   s ← another
   gives (record { a = a; v = v; s = s })
 
+-- another form is 4: "If line 2 is not three numbers of 1 to 5 digits parted by commas, it prints `4 0 `"
 unfoldable pub address-read : Option Address → ReadAddress
-address-read none = ReadAddress.Bad
+address-read none = ReadAddress.Refused bad-address
 address-read (some p) = ReadAddress.Address (p .a) (p .v) (p .s)

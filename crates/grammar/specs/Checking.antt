@@ -17,6 +17,7 @@ use Rattle.codes.specs.declared.Elm.{Elm}
 use Rattle.grammar.specs.Places.{byte-at}
 use Rattle.grammar.specs.Reading.{conversion}
 use Rattle.grammar.specs.declared.Head.{Head}
+use Rattle.grammar.specs.declared.ReadHead.{ReadHead}
 use Rattle.grammar.specs.declared.Judged.{Judged}
 use Rattle.grammar.specs.declared.Verdict.{Verdict}
 
@@ -37,15 +38,25 @@ unfoldable pub held-after : Elm → ℕ → ℕ
 held-after e held = entries (held-in held >>= stacked (elm-of [] e))
 
 -- what one whole code begins with: `F;` and the place of the first elm, or all of it
-abbrev pub whole : ℕ → Option (Conversion × ℕ) → Head
-whole size none = Head.Bad
-whole size (some r) = if eqb (r .1) size then Head.Single (r .0) else Head.Bad
+abbrev pub whole : ℕ → Option (Conversion × ℕ) → Option Head
+whole size none = none
+whole size (some r) = if eqb (r .1) size then some (Head.Single (r .0)) else none
 
-unfoldable pub head : Bytes → Head
+unfoldable pub head : Bytes → Option Head
 head s =
     if eqb (ch "F") (byte-at s 0)
-    then (if eqb (ch ";") (byte-at s 1) then Head.Function 2 else Head.Bad)
+    then (if eqb (ch ";") (byte-at s 1) then some (Head.Function 2) else none)
     else whole (length s) (conversion s 0)
+
+-- each case of the answer: what the code begins with, or refusal 6, "a code is not in the grammar"
+unfoldable pub head-read : Option Head → ReadHead
+head-read none = ReadHead.Refused not-in-grammar
+head-read (some h) = ReadHead.Head h
+
+-- "A number not given here, by any call, is 0"
+abbrev pub head-refusal : ReadHead → ℕ
+head-refusal (ReadHead.Head h) = 0
+head-refusal (ReadHead.Refused number) = number
 
 -- the elms from a place to the end of the code
 unfoldable pub elms-from : Bytes → ℕ → Option (List paper.Elm)

@@ -21,10 +21,10 @@ fn another(text: &[u8], at: usize) -> ReadNum
     if comma.byte == b',' {
         return numeral(text, comma.next, MORE);
     }
-    ReadNum::Bad
+    ReadNum::Refused(paper::refusal::NOT_IN_GRAMMAR)
 }
 
-// "three numbers of 1 to 5 digits parted by commas"
+// "three numbers of 1 to 5 digits parted by commas"; a number that is not there, itself 6, makes the address 4.
 pub fn address(text: &[u8]) -> ReadAddress
     ensures { λ r. ⌜ r ≡ address-read (all-read (address-form (now (text .entry)))) ⌝ }
 {
@@ -33,25 +33,25 @@ pub fn address(text: &[u8]) -> ReadAddress
         next: first,
     } = numeral(text, 0, MORE)
     else {
-        return ReadAddress::Bad;
+        return ReadAddress::Refused(paper::refusal::BAD_ADDRESS);
     };
     let ReadNum::Num {
         value: v,
         next: second,
     } = another(text, first)
     else {
-        return ReadAddress::Bad;
+        return ReadAddress::Refused(paper::refusal::BAD_ADDRESS);
     };
     let ReadNum::Num {
         value: s,
         next: third,
     } = another(text, second)
     else {
-        return ReadAddress::Bad;
+        return ReadAddress::Refused(paper::refusal::BAD_ADDRESS);
     };
     if third == text.len() {
         ReadAddress::Address { a, v, s }
     } else {
-        ReadAddress::Bad
+        ReadAddress::Refused(paper::refusal::BAD_ADDRESS)
     }
 }

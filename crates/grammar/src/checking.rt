@@ -3,6 +3,7 @@ use crate::Head;
 use crate::Judged;
 use crate::ReadConversion;
 use crate::ReadElm;
+use crate::ReadHead;
 use crate::Verdict;
 use crate::conversions::conversion;
 use crate::elms::elm;
@@ -26,6 +27,7 @@ ghost use Rattle.grammar.specs.Checking.{
   counted,
   held-in,
   head,
+  head-read,
   elms-from,
   finished,
   judged-of,
@@ -41,7 +43,7 @@ const STACK: u64 = Limit::STACK.most as u64;
 const FAULT: u64 = STACK + 1;
 
 // "`P` takes one entry .., `_` takes .. two, a literal or LPV takes none"
-pub fn takes(elm: Elm) -> u64
+fn takes(elm: Elm) -> u64
     ensures { λ r. ⌜ r ≡ shape-of elm .takes ⌝ }
 {
     match elm {
@@ -55,7 +57,7 @@ pub fn takes(elm: Elm) -> u64
 }
 
 // "`P` .. puts two, `_` .. puts two"
-pub fn puts(elm: Elm) -> u64
+fn puts(elm: Elm) -> u64
     ensures { λ r. ⌜ r ≡ shape-of elm .puts ⌝ }
 {
     match elm {
@@ -69,7 +71,7 @@ pub fn puts(elm: Elm) -> u64
 }
 
 // 1 for an attribute load, "A"; the others are "B".
-pub fn loads(elm: Elm) -> u64
+fn loads(elm: Elm) -> u64
     ensures { λ r. ⌜ r ≡ counts true (shape-of elm .loads) ⌝ }
 {
     match elm {
@@ -108,24 +110,31 @@ fn held_after(elm: Elm, held: u64) -> u64
 }
 
 // What one whole code begins with.
-pub fn head(code: &[u8]) -> Head
-    ensures { λ r. ⌜ r ≡ head (now (code .entry)) ⌝ }
+pub fn head(code: &[u8]) -> ReadHead
+    ensures { λ r. ⌜ r ≡ head-read (head (now (code .entry))) ⌝ }
 {
     let first = peek(code, 0);
-    if first.byte == b'F' {
-        let second = peek(code, 1);
-        if second.byte == b';' {
-            return Head::Function { first: 2 };
+    let letter = first.byte;
+    match letter {
+        b'F' => {
+            let second = peek(code, 1);
+            if second.byte == b';' {
+                ReadHead::Head(Head::Function { first: 2 })
+            } else {
+                ReadHead::Refused(paper::refusal::NOT_IN_GRAMMAR)
+            }
         }
-        return Head::Bad;
-    }
-    let ReadConversion::Conversion { conversion, next } = conversion(code, 0) else {
-        return Head::Bad;
-    };
-    if next == code.len() {
-        Head::Single(conversion)
-    } else {
-        Head::Bad
+        _ => {
+            let read = conversion(code, 0);
+            let ReadConversion::Conversion { conversion, next } = read else {
+                return ReadHead::Refused(read.refusal());
+            };
+            if next == code.len() {
+                ReadHead::Head(Head::Single(conversion))
+            } else {
+                ReadHead::Refused(paper::refusal::NOT_IN_GRAMMAR)
+            }
+        }
     }
 }
 
@@ -149,8 +158,9 @@ fn judge_elms(code: &[u8], first: usize) -> Judged
     let mut attributes = 0;
     let mut others = 0;
     loop {
-        let ReadElm::Elm { elm, next } = elm(code, at) else {
-            return Judged::Faulty(paper::refusal::NOT_IN_GRAMMAR);
+        let read = elm(code, at);
+        let ReadElm::Elm { elm, next } = read else {
+            return Judged::Faulty(read.refusal());
         };
         let load = loads(elm);
         held = held_after(elm, held);
@@ -172,13 +182,16 @@ fn judge(code: &[u8]) -> Judged
     requires { ⌜ any is-mark (now code) ≡ false ⌝ }
     ensures { λ r. ⌜ r ≡ judged-of (judged (now (code .entry))) ⌝ }
 {
-    match head(code) {
+    let read = head(code);
+    let ReadHead::Head(head) = read else {
+        return Judged::Faulty(read.refusal());
+    };
+    match head {
         Head::Function { first } => judge_elms(code, first),
         Head::Single(_) => Judged::Lawful {
             loads: 0,
             others: 1,
         },
-        Head::Bad => Judged::Faulty(paper::refusal::NOT_IN_GRAMMAR),
     }
 }
 

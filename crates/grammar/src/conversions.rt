@@ -93,12 +93,12 @@ fn masking_code(code: &[u8], at: usize) -> ReadConversion
         },
         b'L' => mask_code(code, next, true),
         b'R' => mask_code(code, next, false),
-        _ => ReadConversion::Bad,
+        _ => ReadConversion::Refused(paper::refusal::NOT_IN_GRAMMAR),
     }
 }
 
 // A code other than F.
-pub fn conversion(code: &[u8], at: usize) -> ReadConversion
+pub(crate) fn conversion(code: &[u8], at: usize) -> ReadConversion
     ensures { λ r. ⌜ r ≡ conversion-read (conversion (now (code .entry)) at) ⌝ }
 {
     let ahead = peek(code, at);
@@ -109,6 +109,6 @@ pub fn conversion(code: &[u8], at: usize) -> ReadConversion
         b'L' => length_code(code, ahead.next),
         b'M' => masking_code(code, ahead.next),
         b'D' => date_code(code, ahead.next),
-        _ => ReadConversion::Bad,
+        _ => ReadConversion::Refused(paper::refusal::NOT_IN_GRAMMAR),
     }
 }

@@ -34,22 +34,26 @@ fn repeats(code: &[u8], at: usize) -> Repeats
     ensures { λ r. ⌜ some (r .repeat, r .next) ≡ repeats (now (code .entry)) at ⌝ }
 {
     let first = peek(code, at);
-    if first.byte != b'R' {
-        return Repeats {
+    let letter = first.byte;
+    match letter {
+        b'R' => {
+            let second = peek(code, first.next);
+            let again = second.byte;
+            match again {
+                b'R' => Repeats {
+                    repeat: Repeat::FirstSubvalue,
+                    next: second.next,
+                },
+                _ => Repeats {
+                    repeat: Repeat::FirstValue,
+                    next: first.next,
+                },
+            }
+        }
+        _ => Repeats {
             repeat: Repeat::Each,
             next: at,
-        };
-    }
-    let second = peek(code, first.next);
-    if second.byte != b'R' {
-        return Repeats {
-            repeat: Repeat::FirstValue,
-            next: first.next,
-        };
-    }
-    Repeats {
-        repeat: Repeat::FirstSubvalue,
-        next: second.next,
+        },
     }
 }
 
@@ -82,7 +86,7 @@ fn literal_elm(code: &[u8], from: usize, quote: u8) -> ReadElm
         }
         at += 1;
     }
-    ReadElm::Bad
+    ReadElm::Refused(paper::refusal::NOT_IN_GRAMMAR)
 }
 
 // `PV` of `LPV`
@@ -90,16 +94,20 @@ fn previous_elm(code: &[u8], at: usize) -> ReadElm
     ensures { λ r. ⌜ r ≡ elm-read (previous-elm (now (code .entry)) at) ⌝ }
 {
     let first = peek(code, at);
-    if first.byte != b'P' {
-        return ReadElm::Bad;
-    }
-    let second = peek(code, first.next);
-    if second.byte != b'V' {
-        return ReadElm::Bad;
-    }
-    ReadElm::Elm {
-        elm: Elm::Push(Operand::Previous),
-        next: second.next,
+    let letter = first.byte;
+    match letter {
+        b'P' => {
+            let second = peek(code, first.next);
+            let last = second.byte;
+            match last {
+                b'V' => ReadElm::Elm {
+                    elm: Elm::Push(Operand::Previous),
+                    next: second.next,
+                },
+                _ => ReadElm::Refused(paper::refusal::NOT_IN_GRAMMAR),
+            }
+        }
+        _ => ReadElm::Refused(paper::refusal::NOT_IN_GRAMMAR),
     }
 }
 
@@ -138,12 +146,13 @@ fn bracket_elm(code: &[u8], at: usize) -> ReadElm
 fn converting_elm(code: &[u8], at: usize) -> ReadElm
     ensures { λ r. ⌜ r ≡ elm-read (converting-elm (now (code .entry)) at) ⌝ }
 {
-    let ReadConversion::Conversion { conversion, next } = conversion(code, at) else {
-        return ReadElm::Bad;
+    let read = conversion(code, at);
+    let ReadConversion::Conversion { conversion, next } = read else {
+        return ReadElm::Refused(read.refusal());
     };
     let ahead = peek(code, next);
     if ahead.byte != b')' {
-        return ReadElm::Bad;
+        return ReadElm::Refused(paper::refusal::NOT_IN_GRAMMAR);
     }
     ReadElm::Elm {
         elm: Elm::Convert(conversion),
@@ -192,7 +201,7 @@ fn single_elm(code: &[u8], at: usize) -> ReadElm
         b'>' => relating(Relation::Greater, next),
         b'<' => relating(Relation::Lesser, next),
         b']' => relating(Relation::AtLeast, next),
-        _ => ReadElm::Bad,
+        _ => ReadElm::Refused(paper::refusal::NOT_IN_GRAMMAR),
     }
 }
 

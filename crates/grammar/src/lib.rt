@@ -3,10 +3,10 @@
 // A literal is a place in the code, not a copy. Every contract is an equality with a definition that proofs/ tie to crates/paper.
 pub mod addresses;
 pub mod checking;
-pub mod conversions;
+mod conversions;
 pub mod elms;
 mod masking;
-pub mod places;
+mod places;
 mod plains;
 
 use codes::Conversion;
@@ -24,7 +24,8 @@ ghost use Rattle.paper.specs.Checking.{check, report};
 ghost use Rattle.paper.specs.TypedDates.{typed-by, typed-date};
 ghost use Rattle.codes.specs.Meaning.{conversion-of};
 ghost use Rattle.dates.specs.Dated.{typed-of};
-ghost use Rattle.grammar.specs.Checking.{verdict-of, report-in};
+ghost use Rattle.grammar.specs.Answers.{num-refusal, fill-refusal, conversion-refusal, elm-refusal};
+ghost use Rattle.grammar.specs.Checking.{head-refusal, verdict-of, report-in};
 
 // The byte at a place, and the place after it.
 pub(crate) struct Ahead {
@@ -63,38 +64,101 @@ pub(crate) struct Repeats {
     pub next: usize,
 }
 
-// What a reader answers: what it read, with the place after it, or that it is not in the grammar.
-pub enum ReadNum {
+// What a reader answers: what it read, with the place after it, or the refusal's number, 6: "a code is not in the grammar".
+pub(crate) enum ReadNum {
     Num { value: u64, next: usize },
-    Bad,
+    Refused(u64),
 }
 
 pub(crate) enum ReadFill {
     Fill { fill: Fill, next: usize },
-    Bad,
+    Refused(u64),
 }
 
-pub enum ReadConversion {
+pub(crate) enum ReadConversion {
     Conversion { conversion: Conversion, next: usize },
-    Bad,
+    Refused(u64),
 }
 
 pub enum ReadElm {
     Elm { elm: Elm, next: usize },
-    Bad,
-}
-
-// A typed address, or another form.
-pub enum ReadAddress {
-    Address { a: u64, v: u64, s: u64 },
-    Bad,
+    Refused(u64),
 }
 
 // What one whole code begins with.
 pub enum Head {
     Function { first: usize },
     Single(Conversion),
-    Bad,
+}
+
+pub enum ReadHead {
+    Head(Head),
+    Refused(u64),
+}
+
+// A typed address, or the refusal's number, 4.
+pub enum ReadAddress {
+    Address { a: u64, v: u64, s: u64 },
+    Refused(u64),
+}
+
+// The number that a refused answer carries, to be passed up; 0 for another.
+impl ReadNum {
+    pub(crate) fn refusal(self) -> u64
+        ensures { λ r. ⌜ r ≡ num-refusal self ⌝ }
+    {
+        match self {
+            ReadNum::Num { value: _, next: _ } => 0,
+            ReadNum::Refused(number) => number,
+        }
+    }
+}
+
+impl ReadFill {
+    pub(crate) fn refusal(self) -> u64
+        ensures { λ r. ⌜ r ≡ fill-refusal self ⌝ }
+    {
+        match self {
+            ReadFill::Fill { fill: _, next: _ } => 0,
+            ReadFill::Refused(number) => number,
+        }
+    }
+}
+
+impl ReadConversion {
+    pub(crate) fn refusal(self) -> u64
+        ensures { λ r. ⌜ r ≡ conversion-refusal self ⌝ }
+    {
+        match self {
+            ReadConversion::Conversion {
+                conversion: _,
+                next: _,
+            } => 0,
+            ReadConversion::Refused(number) => number,
+        }
+    }
+}
+
+impl ReadElm {
+    pub fn refusal(self) -> u64
+        ensures { λ r. ⌜ r ≡ elm-refusal self ⌝ }
+    {
+        match self {
+            ReadElm::Elm { elm: _, next: _ } => 0,
+            ReadElm::Refused(number) => number,
+        }
+    }
+}
+
+impl ReadHead {
+    pub fn refusal(self) -> u64
+        ensures { λ r. ⌜ r ≡ head-refusal self ⌝ }
+    {
+        match self {
+            ReadHead::Head(_) => 0,
+            ReadHead::Refused(number) => number,
+        }
+    }
 }
 
 // One code: its attribute loads and other steps, or its fault.
@@ -150,9 +214,12 @@ pub fn typed_date(code: &[u8], text: &[u8]) -> TypedDay
     if lent::marked(code) {
         return TypedDay::Refused(paper::refusal::NOT_IN_GRAMMAR);
     }
-    match checking::head(code) {
-        Head::Function { first: _ } => TypedDay::Refused(paper::refusal::NOT_IN_GRAMMAR),
-        Head::Single(conversion) => typed_by(conversion, text),
-        Head::Bad => TypedDay::Refused(paper::refusal::NOT_IN_GRAMMAR),
-    }
+    let read = checking::head(code);
+    let ReadHead::Head(head) = read else {
+        return TypedDay::Refused(read.refusal());
+    };
+    let Head::Single(conversion) = head else {
+        return TypedDay::Refused(paper::refusal::NOT_IN_GRAMMAR);
+    };
+    typed_by(conversion, text)
 }

@@ -88,14 +88,15 @@ fn credit_letter(code: &[u8], at: usize) -> Credits
 fn fill_field(code: &[u8], at: usize, fill: u8) -> ReadFill
     ensures { λ r. ⌜ r ≡ fill-read (fill-field fill (now (code .entry)) at) ⌝ }
 {
-    let ReadNum::Num { value: width, next } = num(code, at) else {
-        return ReadFill::Bad;
+    let read = num(code, at);
+    let ReadNum::Num { value: width, next } = read else {
+        return ReadFill::Refused(read.refusal());
     };
     if width == 0 {
-        return ReadFill::Bad;
+        return ReadFill::Refused(paper::refusal::NOT_IN_GRAMMAR);
     }
     if 99 < width {
-        return ReadFill::Bad;
+        return ReadFill::Refused(paper::refusal::NOT_IN_GRAMMAR);
     }
     let ahead = peek(code, next);
     if ahead.byte == b')' {
@@ -104,7 +105,7 @@ fn fill_field(code: &[u8], at: usize, fill: u8) -> ReadFill
             next: ahead.next,
         }
     } else {
-        ReadFill::Bad
+        ReadFill::Refused(paper::refusal::NOT_IN_GRAMMAR)
     }
 }
 
@@ -118,7 +119,7 @@ fn fill_width(code: &[u8], at: usize) -> ReadFill
         b'#' => fill_field(code, ahead.next, b' '),
         b'*' => fill_field(code, ahead.next, b'*'),
         b'%' => fill_field(code, ahead.next, b'0'),
-        _ => ReadFill::Bad,
+        _ => ReadFill::Refused(paper::refusal::NOT_IN_GRAMMAR),
     }
 }
 
@@ -146,8 +147,9 @@ pub(crate) fn mask_code(code: &[u8], at: usize, left: bool) -> ReadConversion
     let comma = flag(code, zero.next, b',');
     let credits = credit_letter(code, comma.next);
     let dollar = flag(code, credits.next, b'$');
-    let ReadFill::Fill { fill, next } = fill_part(code, dollar.next) else {
-        return ReadConversion::Bad;
+    let read = fill_part(code, dollar.next);
+    let ReadFill::Fill { fill, next } = read else {
+        return ReadConversion::Refused(read.refusal());
     };
     let credit = credits.credit;
     ReadConversion::Conversion {

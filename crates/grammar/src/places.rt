@@ -54,7 +54,7 @@ pub(crate) fn digit(code: &[u8], at: usize) -> ReadNum
             value: (byte - b'0') as u64,
             next: ahead.next,
         },
-        _ => ReadNum::Bad,
+        _ => ReadNum::Refused(paper::refusal::NOT_IN_GRAMMAR),
     }
 }
 
@@ -82,8 +82,9 @@ pub(crate) fn numeral(code: &[u8], at: usize, most: u64) -> ReadNum
     requires { ⌜ most ≤ 4 ⌝ }
     ensures { λ r. ⌜ r ≡ num-read (numeral most (now (code .entry)) at) ⌝ }
 {
-    let ReadNum::Num { value, next } = digit(code, at) else {
-        return ReadNum::Bad;
+    let read = digit(code, at);
+    let ReadNum::Num { value, next } = read else {
+        return read;
     };
     let digits = more_digits(code, next, value, most);
     ReadNum::Num {
@@ -93,7 +94,7 @@ pub(crate) fn numeral(code: &[u8], at: usize, most: u64) -> ReadNum
 }
 
 // ""num" is 1 to 4 digits"
-pub fn num(code: &[u8], at: usize) -> ReadNum
+pub(crate) fn num(code: &[u8], at: usize) -> ReadNum
     ensures { λ r. ⌜ r ≡ num-read (num (now (code .entry)) at) ⌝ }
 {
     numeral(code, at, 3)

@@ -44,13 +44,14 @@ fn group_after(code: &[u8], at: usize, skip: u64) -> ReadConversion
     let ahead = peek(code, at);
     let separator = ahead.byte;
     if !separates(separator) {
-        return ReadConversion::Bad;
+        return ReadConversion::Refused(paper::refusal::NOT_IN_GRAMMAR);
     }
-    let ReadNum::Num { value: count, next } = num(code, ahead.next) else {
-        return ReadConversion::Bad;
+    let read = num(code, ahead.next);
+    let ReadNum::Num { value: count, next } = read else {
+        return ReadConversion::Refused(read.refusal());
     };
     if count == 0 {
-        return ReadConversion::Bad;
+        return ReadConversion::Refused(paper::refusal::NOT_IN_GRAMMAR);
     }
     ReadConversion::Conversion {
         conversion: Conversion::Plain(Plain::Group {
@@ -77,10 +78,11 @@ fn extract_from(code: &[u8], at: usize, start: u64) -> ReadConversion
     ensures { λ r. ⌜ r ≡ conversion-read (as-plain (extract-from start) (now (code .entry)) at) ⌝ }
 {
     if start == 0 {
-        return ReadConversion::Bad;
+        return ReadConversion::Refused(paper::refusal::NOT_IN_GRAMMAR);
     }
-    let ReadNum::Num { value: count, next } = num(code, at) else {
-        return ReadConversion::Bad;
+    let read = num(code, at);
+    let ReadNum::Num { value: count, next } = read else {
+        return ReadConversion::Refused(read.refusal());
     };
     ReadConversion::Conversion {
         conversion: Conversion::Plain(Plain::Extract { start, count }),
@@ -92,8 +94,9 @@ fn extract_from(code: &[u8], at: usize, start: u64) -> ReadConversion
 pub(crate) fn extract_code(code: &[u8], at: usize) -> ReadConversion
     ensures { λ r. ⌜ r ≡ conversion-read (as-plain extract-code (now (code .entry)) at) ⌝ }
 {
-    let ReadNum::Num { value, next } = num(code, at) else {
-        return ReadConversion::Bad;
+    let read = num(code, at);
+    let ReadNum::Num { value, next } = read else {
+        return ReadConversion::Refused(read.refusal());
     };
     let ahead = peek(code, next);
     let byte = ahead.byte;
@@ -113,8 +116,9 @@ pub(crate) fn extract_code(code: &[u8], at: usize) -> ReadConversion
 fn admit_from(code: &[u8], at: usize, least: u64) -> ReadConversion
     ensures { λ r. ⌜ r ≡ conversion-read (as-plain (admit-from least) (now (code .entry)) at) ⌝ }
 {
-    let ReadNum::Num { value: most, next } = num(code, at) else {
-        return ReadConversion::Bad;
+    let read = num(code, at);
+    let ReadNum::Num { value: most, next } = read else {
+        return ReadConversion::Refused(read.refusal());
     };
     ReadConversion::Conversion {
         conversion: Conversion::Plain(Plain::Admit { least, most }),
@@ -172,7 +176,7 @@ fn except_code(code: &[u8], at: usize) -> ReadConversion
     match byte {
         b'A' => lettered(Plain::OtherThanLetters, ahead.next),
         b'N' => lettered(Plain::OtherThanNumerals, ahead.next),
-        _ => ReadConversion::Bad,
+        _ => ReadConversion::Refused(paper::refusal::NOT_IN_GRAMMAR),
     }
 }
 
@@ -189,6 +193,6 @@ pub(crate) fn character_code(code: &[u8], at: usize) -> ReadConversion
         b'U' => lettered(Plain::Upper, ahead.next),
         b'L' => lettered(Plain::Lower, ahead.next),
         b'T' => lettered(Plain::Title, ahead.next),
-        _ => ReadConversion::Bad,
+        _ => ReadConversion::Refused(paper::refusal::NOT_IN_GRAMMAR),
     }
 }

@@ -8,7 +8,7 @@ use mathlib.Core.Option.{some}
 use borrow.Author.Needs.{needs}
 use Rattle.grammar.specs.Checking.{shape-of, elms-from, finished}
 use Rattle.grammar.specs.Reading.{elm}
-use Rattle.grammar.proofs.Taken.{elm-is}
+use Rattle.grammar.proofs.Answering.{elms, read-is, refused-read}
 use Rattle.grammar.proofs.Parted.{elm-within}
 use Rattle.grammar.proofs.Bytes.{after-inside}
 use Rattle.grammar.proofs.Judging.{load-small, finished-none, finished-last, finished-more, finished-stray}
@@ -22,27 +22,28 @@ Inv-loop code first at₀ held₀ attributes₀ others₀ at held attributes oth
 abbrev μ-loop : tie.MeasureT-loop
 μ-loop code first at₀ held₀ attributes₀ others₀ at held attributes others = length code - at
 
-read : (c : tie.After-held-after Inv-loop μ-loop) → elm (now (c .before .before .before .before .before .before .before .before .args .code)) (c .before .before .before .before .before .before .loop .at) ≡ some (c .before .before .before .elm2 .given .0 .0, c .before .before .before .elm2 .given .0 .1 .0)
-read c = elm-is (c .before .before .before .before .before .elm .ensures) (c .before .before .before .elm2 .given .1)
+read : (c : tie.After-held-after Inv-loop μ-loop) → elm (now (c .before .before .before .before .before .before .before .before .args .code)) (c .before .before .before .before .before .before .loop .at) ≡ some (c .before .before .before .read .given .0 .0, c .before .before .before .read .given .0 .1 .0)
+read c = read-is elms (c .before .before .before .before .before .elm .ensures) (c .before .before .before .read .given .1)
 
 -- the elm lies within the code, and is one load at most
-small : (c : tie.After-held-after Inv-loop μ-loop) → ((c .before .before .before .before .before .before .loop .at < c .before .before .before .elm2 .given .0 .1 .0) × (c .before .before .before .elm2 .given .0 .1 .0 ≤ length (now (c .before .before .before .before .before .before .before .before .args .code)))) × (c .before .loads .result ≤ 1)
+small : (c : tie.After-held-after Inv-loop μ-loop) → ((c .before .before .before .before .before .before .loop .at < c .before .before .before .read .given .0 .1 .0) × (c .before .before .before .read .given .0 .1 .0 ≤ length (now (c .before .before .before .before .before .before .before .before .args .code)))) × (c .before .loads .result ≤ 1)
 small c =
     let l = c .before .before .before .before .before .before .loop in
-    (elm-within _ (l .at) (l .inv .0) _ _ (read c), omega (arith, c .before .loads .ensures, load-small (shape-of (c .before .before .before .elm2 .given .0 .0) .loads)))
+    (elm-within _ (l .at) (l .inv .0) _ _ (read c), omega (arith, c .before .loads .ensures, load-small (shape-of (c .before .before .before .read .given .0 .0) .loads)))
 
 -- the next elm stands after the semicolon
-passed : (c : tie.Else2 Inv-loop μ-loop) → (c .before .before .peek .result .next ≡ c .before .before .before .before .before .before .before .elm2 .given .0 .1 .0 + 1) × (c .before .before .before .before .before .before .before .elm2 .given .0 .1 .0 < length (now (c .before .before .before .before .before .before .before .before .before .before .before .before .args .code)))
+passed : (c : tie.Else2 Inv-loop μ-loop) → (c .before .before .peek .result .next ≡ c .before .before .before .before .before .before .before .read .given .0 .1 .0 + 1) × (c .before .before .before .before .before .before .before .read .given .0 .1 .0 < length (now (c .before .before .before .before .before .before .before .before .before .before .before .before .args .code)))
 passed c =
     let w = small (c .before .before .before .before) in
-    let n = c .before .before .before .before .before .before .before .elm2 .given .0 .1 .0 in
+    let n = c .before .before .before .before .before .before .before .read .given .0 .1 .0 in
     let i : n < length (now (c .before .before .before .before .before .before .before .before .before .before .before .before .args .code)) = omega (arith, w, c .before .before .before .if1 .left) in
     (c .before .before .peek .ensures .leads ∙ sym (after-inside _ n i), i)
 
 returns : tie.Need-returns Inv-loop μ-loop
 returns c =
-    let l = c .before .before .before .loop in
-    sym (finished-none _ (l .at) (l .inv .0) (elm-is (c .before .before .elm .ensures) (c .enum-told .given .1)) (l .held) (l .attributes) (l .others)) ∙ l .inv .2
+    let l = c .before .before .before .before .loop in
+    let w = refused-read elms (c .refusal .ensures) (c .before .before .before .elm .ensures) (c .before .enum-told .given .1) in
+    rw (w .1) (sym (finished-none _ (l .at) (l .inv .0) (w .0) (l .held) (l .attributes) (l .others)) ∙ l .inv .2)
 
 returns-2 : tie.Need-returns-2 Inv-loop μ-loop
 returns-2 c =
@@ -69,6 +70,7 @@ judge-elms-spec =
     (λ c κs. search needs)
     (λ c. search needs)
     (λ c. search needs)
+    (λ c κs. search needs)
     returns
     (λ c κs. search needs)
     (λ c κs. search needs)

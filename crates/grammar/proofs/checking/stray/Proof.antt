@@ -7,7 +7,7 @@ use Rattle.grammar.proofs.checking.stray.Tie as tie
 
 returns : tie.Need-returns
 unfolding stray
-returns c = simp (lt-leb _ _ (c .before .if1 .taken))
+returns c = simp (lt-leb _ _ (c .before .before .if1 .taken))
 
 returns-2 : tie.Need-returns-2
 unfolding stray

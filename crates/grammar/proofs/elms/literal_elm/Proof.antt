@@ -6,7 +6,7 @@ use lib.ListN.{length, drop}
 use denote.Ref.{now}
 use Rattle.grammar.specs.Reading.{closing}
 use Rattle.grammar.proofs.Lines.{closing-here, closing-on, closing-none, literal-closed, literal-open}
-use Rattle.grammar.proofs.Taken.{elm-none, elm-some}
+use Rattle.grammar.proofs.Answering.{elms, read-none, read-some}
 use Rattle.grammar.proofs.elms.literal_elm.Statement.{statement}
 use Rattle.grammar.proofs.elms.literal_elm.Tie as tie
 
@@ -20,7 +20,7 @@ returns : tie.Need-returns Inv-loop μ-loop
 returns c =
     let a = c .before .before .before .before .args in
     let l = c .before .before .before .loop in
-    elm-some (literal-closed _ _ _ _ (sym (l .inv .1) ∙ closing-here (now (a .code)) (l .at) (a .quote) (c .before .before .loop-test .taken) (c .if1 .taken)))
+    read-some elms (literal-closed _ _ _ _ (sym (l .inv .1) ∙ closing-here (now (a .code)) (l .at) (a .quote) (c .before .before .loop-test .taken) (c .if1 .taken)))
 
 loop-again : tie.Need-loop-again Inv-loop μ-loop
 loop-again c =
@@ -32,7 +32,7 @@ returns-2 : tie.Need-returns-2 Inv-loop μ-loop
 returns-2 c =
     let a = c .before .before .args in
     let l = c .before .loop in
-    elm-none (literal-open _ _ _ (sym (l .inv .1) ∙ closing-none (now (a .code)) (l .at) (a .quote) (c .loop-test .left)))
+    read-none elms (literal-open _ _ _ (sym (l .inv .1) ∙ closing-none (now (a .code)) (l .at) (a .quote) (c .loop-test .left)))
 
 pub literal-elm-spec : {M : Type 1} → statement M
 literal-elm-spec =

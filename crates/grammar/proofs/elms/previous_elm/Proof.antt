@@ -1,18 +1,18 @@
 -- `elms::previous_elm` meets its contract. Assumes nothing.
 use borrow.Author.Needs.{needs}
 use Rattle.grammar.proofs.Lines.{previous-first, previous-second, previous-read}
-use Rattle.grammar.proofs.Taken.{elm-none, elm-some}
+use Rattle.grammar.proofs.Answering.{elms, read-none, read-some}
 use Rattle.grammar.proofs.elms.previous_elm.Statement.{statement}
 use Rattle.grammar.proofs.elms.previous_elm.Tie as tie
 
 returns : tie.Need-returns
-returns c = elm-none (previous-first (c .before .before .peek .ensures) (c .if1 .taken))
+returns c = read-some elms (previous-read (c .before .before .before .peek .ensures) (c .before .before .match .keys1) (c .before .peek2 .ensures) (c .match2 .keys1))
 
 returns-2 : tie.Need-returns-2
-returns-2 c = elm-none (previous-second (c .before .before .before .before .before .peek .ensures) (c .before .before .before .if1 .left) (c .before .before .peek2 .ensures) (c .if2 .taken))
+returns-2 c = read-none elms (previous-second (c .before .before .before .peek .ensures) (c .before .before .match .keys1) (c .before .peek2 .ensures) (c .match2 .rest .1))
 
 returns-3 : tie.Need-returns-3
-returns-3 c = elm-some (previous-read (c .before .before .before .before .before .peek .ensures) (c .before .before .before .if1 .left) (c .before .before .peek2 .ensures) (c .if2 .left))
+returns-3 c = read-none elms (previous-first (c .before .peek .ensures) (c .match .rest .1))
 
 pub previous-elm-spec : {M : Type 1} → statement M
-previous-elm-spec = tie.close (tie.spec (λ c κs. search needs) returns (λ c κs. search needs) returns-2 returns-3)
+previous-elm-spec = tie.close (tie.spec (λ c κs. search needs) (λ c κs. search needs) returns returns-2 returns-3)

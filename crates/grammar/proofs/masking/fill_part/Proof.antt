@@ -2,17 +2,18 @@
 use mathlib.Core.Path.{refl}
 use borrow.Author.Needs.{needs}
 use Rattle.grammar.specs.Reading.{fill-part}
-use Rattle.grammar.proofs.Taken.{chosen, missed, fill-some, fill-by}
+use Rattle.grammar.proofs.Answering.{fills, read-by, read-some}
+use Rattle.grammar.proofs.Taken.{chosen, missed}
 use Rattle.grammar.proofs.masking.fill_part.Statement.{statement}
 use Rattle.grammar.proofs.masking.fill_part.Tie as tie
 
 returns : tie.Need-returns
 unfolding fill-part
-returns c = fill-by (c .fill-width .ensures) (chosen _ _ (c .before .before .peek .ensures) (c .before .match .keys1) tt refl)
+returns c = read-by fills (c .fill-width .ensures) (chosen _ _ (c .before .before .peek .ensures) (c .before .match .keys1) tt refl)
 
 returns-2 : tie.Need-returns-2
 unfolding fill-part
-returns-2 c = fill-some (missed _ _ (c .before .peek .ensures) (c .match .rest))
+returns-2 c = read-some fills (missed _ _ (c .before .peek .ensures) (c .match .rest))
 
 pub fill-part-spec : {M : Type 1} → statement M
 fill-part-spec = tie.close (tie.spec (λ c κs. search needs) (λ c κs. search needs) returns returns-2)

@@ -3,25 +3,26 @@ use mathlib.Core.Path.{refl}
 use borrow.Author.Needs.{needs}
 use Rattle.grammar.specs.Reading.{fill-byte}
 use Rattle.grammar.proofs.Lines.{width-by, width-none}
-use Rattle.grammar.proofs.Taken.{chosen, missed, fill-none, fill-by}
+use Rattle.grammar.proofs.Answering.{fills, read-by, read-none}
+use Rattle.grammar.proofs.Taken.{chosen, missed}
 use Rattle.grammar.proofs.masking.fill_width.Statement.{statement}
 use Rattle.grammar.proofs.masking.fill_width.Tie as tie
 
 returns : tie.Need-returns
 unfolding fill-byte
-returns c = fill-by (c .fill-field .ensures) (width-by _ _ _ _ (chosen _ _ (c .before .before .peek .ensures) (c .before .match .keys1) tt refl))
+returns c = read-by fills (c .fill-field .ensures) (width-by _ _ _ _ (chosen _ _ (c .before .before .peek .ensures) (c .before .match .keys1) tt refl))
 
 returns-2 : tie.Need-returns-2
 unfolding fill-byte
-returns-2 c = fill-by (c .fill-field2 .ensures) (width-by _ _ _ _ (chosen _ _ (c .before .before .peek .ensures) (c .before .match .keys2) tt refl))
+returns-2 c = read-by fills (c .fill-field2 .ensures) (width-by _ _ _ _ (chosen _ _ (c .before .before .peek .ensures) (c .before .match .keys2) tt refl))
 
 returns-3 : tie.Need-returns-3
 unfolding fill-byte
-returns-3 c = fill-by (c .fill-field3 .ensures) (width-by _ _ _ _ (chosen _ _ (c .before .before .peek .ensures) (c .before .match .keys3) tt refl))
+returns-3 c = read-by fills (c .fill-field3 .ensures) (width-by _ _ _ _ (chosen _ _ (c .before .before .peek .ensures) (c .before .match .keys3) tt refl))
 
 returns-4 : tie.Need-returns-4
 unfolding fill-byte
-returns-4 c = fill-none (width-none _ _ (missed _ _ (c .before .peek .ensures) (c .match .rest)))
+returns-4 c = read-none fills (width-none _ _ (missed _ _ (c .before .peek .ensures) (c .match .rest)))
 
 pub fill-width-spec : {M : Type 1} → statement M
 fill-width-spec =

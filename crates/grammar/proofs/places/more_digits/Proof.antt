@@ -4,7 +4,8 @@ use mathlib.Core.Path.{_≡_, refl, sym, _∙_}
 use native.Mathlib.Omega.{arith}
 use borrow.Author.Needs.{needs}
 use Rattle.grammar.specs.Places.{more-digits}
-use Rattle.grammar.proofs.Taken.{num-is, digit-small, digits-more, digits-stop, digits-done, digits-start, digits-room, digits-step}
+use Rattle.grammar.proofs.Answering.{nums, read-is}
+use Rattle.grammar.proofs.Taken.{digit-small, digits-more, digits-stop, digits-done, digits-start, digits-room, digits-step}
 use Rattle.grammar.proofs.places.more_digits.Statement.{statement}
 use Rattle.grammar.proofs.places.more_digits.Tie as tie
 
@@ -18,20 +19,20 @@ abbrev μ-loop : tie.MeasureT-loop
 returns : tie.Need-returns Inv-loop μ-loop
 returns c =
     let l = c .before .before .before .before .loop in
-    let e = num-is (c .before .before .digit .ensures) (c .enum-told .given .1) in
+    let e = read-is nums (c .before .before .digit .ensures) (c .enum-told .given .1) in
     sym (digits-stop _ (l .at) (l .left) (l .value) (c .before .before .before .loop-test .taken) e) ∙ l .inv .1
 
 -- the digit read, and the value before it
 small : (c : tie.After-known-told Inv-loop μ-loop) → (c .before .d .given .0 .0 ≤ 9) × (c .before .before .before .before .before .loop .value < 100_000)
 small c =
     let l = c .before .before .before .before .before .loop in
-    (digit-small _ _ _ _ (num-is (c .before .before .before .digit .ensures) (c .before .d .given .1)), digits-room (l .value) (l .left) (l .inv .0))
+    (digit-small _ _ _ _ (read-is nums (c .before .before .before .digit .ensures) (c .before .d .given .1)), digits-room (l .value) (l .left) (l .inv .0))
 
 loop-again : tie.Need-loop-again Inv-loop μ-loop
 loop-again c =
     let l = c .before .before .before .before .before .loop in
     let t = c .before .before .before .before .loop-test .taken in
-    let e = num-is (c .before .before .before .digit .ensures) (c .before .d .given .1) in
+    let e = read-is nums (c .before .before .before .digit .ensures) (c .before .d .given .1) in
     (digits-step (l .value) (l .left) _ t (small c .0) (l .inv .0), sym (digits-more _ (l .at) (l .left) (l .value) _ _ t e) ∙ l .inv .1)
 
 returns-2 : tie.Need-returns-2 Inv-loop μ-loop

@@ -2,7 +2,8 @@
 use mathlib.Core.Path.{refl, _∙_}
 use borrow.Author.Needs.{needs}
 use Rattle.grammar.specs.Reading.{character-code}
-use Rattle.grammar.proofs.Taken.{chosen, missed, plain-none, plain-some, plain-by}
+use Rattle.grammar.proofs.Answering.{plain-none, plain-some, plain-by}
+use Rattle.grammar.proofs.Taken.{chosen, missed}
 use Rattle.grammar.proofs.plains.character_code.Statement.{statement}
 use Rattle.grammar.proofs.plains.character_code.Tie as tie
 

@@ -2,7 +2,8 @@
 use mathlib.Core.Path.{refl, _∙_}
 use borrow.Author.Needs.{needs}
 use Rattle.grammar.specs.Reading.{except-code}
-use Rattle.grammar.proofs.Taken.{chosen, missed, plain-none, plain-some}
+use Rattle.grammar.proofs.Answering.{plain-none, plain-some}
+use Rattle.grammar.proofs.Taken.{chosen, missed}
 use Rattle.grammar.proofs.plains.except_code.Statement.{statement}
 use Rattle.grammar.proofs.plains.except_code.Tie as tie
 

@@ -3,7 +3,7 @@ use mathlib.Core.Path.{sym, _∙_}
 use borrow.Author.Tests.{not-true, not-false}
 use borrow.Author.Needs.{needs}
 use Rattle.grammar.proofs.Lines.{group-no-separator, group-no-num, group-zero, group-read}
-use Rattle.grammar.proofs.Taken.{num-is, plain-none, plain-some}
+use Rattle.grammar.proofs.Answering.{nums, read-is, plain-none, plain-some, refused-read}
 use Rattle.grammar.proofs.plains.group_after.Statement.{statement}
 use Rattle.grammar.proofs.plains.group_after.Tie as tie
 
@@ -12,18 +12,20 @@ returns c = plain-none (group-no-separator _ (c .before .before .peek .ensures) 
 
 returns-2 : tie.Need-returns-2
 returns-2 c =
-    plain-none
-    (group-no-num _ (c .before .before .before .before .before .peek .ensures) (sym (c .before .before .before .before .separates .ensures) ∙ not-false _ (c .before .before .before .if1 .left)) (num-is (c .before .before .num .ensures) (c .enum-told .given .1)))
+    let w = refused-read nums (c .refusal .ensures) (c .before .before .before .num .ensures) (c .before .enum-told .given .1) in
+    rw (w .1)
+    (plain-none
+    (group-no-num _ (c .before .before .before .before .before .before .peek .ensures) (sym (c .before .before .before .before .before .separates .ensures) ∙ not-false _ (c .before .before .before .before .if1 .left)) (w .0)))
 
 returns-3 : tie.Need-returns-3
 returns-3 c =
     plain-none
-    (group-zero _ (c .before .before .before .before .before .before .before .peek .ensures) _ _ (sym (c .before .before .before .before .before .before .separates .ensures) ∙ not-false _ (c .before .before .before .before .before .if1 .left)) (num-is (c .before .before .before .before .num .ensures) (c .before .before .count .given .1)) (c .if2 .taken))
+    (group-zero _ (c .before .before .before .before .before .before .before .peek .ensures) _ _ (sym (c .before .before .before .before .before .before .separates .ensures) ∙ not-false _ (c .before .before .before .before .before .if1 .left)) (read-is nums (c .before .before .before .before .num .ensures) (c .before .before .read .given .1)) (c .if2 .taken))
 
 returns-4 : tie.Need-returns-4
 returns-4 c =
     plain-some
-    (group-read _ (c .before .before .before .before .before .before .before .peek .ensures) _ _ (sym (c .before .before .before .before .before .before .separates .ensures) ∙ not-false _ (c .before .before .before .before .before .if1 .left)) (num-is (c .before .before .before .before .num .ensures) (c .before .before .count .given .1)) (c .if2 .left))
+    (group-read _ (c .before .before .before .before .before .before .before .peek .ensures) _ _ (sym (c .before .before .before .before .before .before .separates .ensures) ∙ not-false _ (c .before .before .before .before .before .if1 .left)) (read-is nums (c .before .before .before .before .num .ensures) (c .before .before .read .given .1)) (c .if2 .left))
 
 pub group-after-spec : {M : Type 1} → statement M
 group-after-spec =
@@ -35,6 +37,7 @@ group-after-spec =
     (λ c κs. search needs)
     (λ c. search needs)
     (λ c. search needs)
+    (λ c κs. search needs)
     returns-2
     returns-3
     returns-4)

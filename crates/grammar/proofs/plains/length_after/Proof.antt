@@ -2,7 +2,8 @@
 use mathlib.Core.Path.{refl}
 use borrow.Author.Needs.{needs}
 use Rattle.grammar.specs.Reading.{length-after}
-use Rattle.grammar.proofs.Taken.{chosen, missed, plain-some, plain-by}
+use Rattle.grammar.proofs.Answering.{plain-some, plain-by}
+use Rattle.grammar.proofs.Taken.{chosen, missed}
 use Rattle.grammar.proofs.plains.length_after.Statement.{statement}
 use Rattle.grammar.proofs.plains.length_after.Tie as tie
 
