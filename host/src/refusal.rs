@@ -4,7 +4,11 @@ use std::error::Error;
 use std::fmt;
 
 /// Why a call refused. Each case has the number that document 01 gives it.
+///
+/// There may be more of them one day: a `match` outside this package needs an
+/// arm for the others.
 #[derive(Clone, Copy, Debug, PartialEq, Eq, PartialOrd, Ord, Hash)]
+#[non_exhaustive]
 #[repr(u8)]
 pub enum Refusal {
     /// 1: the record, or the record after replacing, is over 32,768 bytes.
@@ -45,7 +49,7 @@ pub enum Refusal {
 
 impl Refusal {
     /// Every refusal, in the order of the numbers.
-    pub const ALL: [Refusal; 17] = [
+    pub const ALL: &'static [Refusal] = &[
         Refusal::RecordTooLong,
         Refusal::ByteNotForRecords,
         Refusal::BadItemId,
@@ -145,13 +149,15 @@ impl Error for Refusal {}
 #[cfg(test)]
 mod tests {
     use super::*;
+    use crate::{paper, SCRATCH_LENGTH};
 
     #[test]
     fn numbers_and_refusals_match() {
-        for (place, refusal) in Refusal::ALL.into_iter().enumerate() {
+        for (place, &refusal) in Refusal::ALL.iter().enumerate() {
             assert_eq!(refusal.number(), place as u64 + 1);
             assert_eq!(Refusal::from_number(refusal.number()), Some(refusal));
         }
+        assert_eq!(Refusal::from_number(17), Some(Refusal::MarkInNewElement));
         assert_eq!(Refusal::from_number(0), None);
         assert_eq!(Refusal::from_number(18), None);
         assert_eq!(Refusal::from_number(u64::MAX), None);
@@ -164,6 +170,24 @@ mod tests {
             for other in Refusal::ALL {
                 assert_eq!(one == other, one.sentence() == other.sentence());
             }
+        }
+    }
+
+    /// A sentence is text of its own: this holds its number to the limit.
+    #[test]
+    fn sentences_have_the_limits() {
+        for (refusal, limit) in [
+            (Refusal::RecordTooLong, paper::RECORD_LENGTH),
+            (Refusal::BadItemId, paper::ID_LENGTH),
+            (Refusal::CodeTooLong, paper::CODE_LENGTH),
+            (Refusal::StackMisused, paper::STACK_DEPTH),
+            (Refusal::ScratchTooShort, SCRATCH_LENGTH),
+            (Refusal::ElementTooLong, paper::ENTRY_LENGTH),
+        ] {
+            let sentence = refusal.sentence().replace(',', "");
+            let words = sentence.split([' ', '.', ':']);
+            let has = words.into_iter().any(|word| word == limit.to_string());
+            assert!(has, "{limit}: {sentence}");
         }
     }
 }
