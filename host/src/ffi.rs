@@ -1,11 +1,11 @@
-//! The five functions that the proved library exports, and nothing else.
+//! The six functions that the proved library exports, and nothing else.
 //!
 //! This is the only file with `unsafe` code. A slice crosses the border as a
 //! pointer and a length, two arguments of their own; a number that a call gives
 //! back crosses as a pointer to it. Each function returns the refusal number, 0
 //! for none.
 
-use crate::outcome::{Address, Check, Convert, Find, Implementation, Replace, TypedDate};
+use crate::outcome::{Address, Ceiling, Check, Convert, Find, Implementation, Replace, TypedDate};
 
 extern "C" {
     fn sundewfrill_find(
@@ -57,6 +57,17 @@ extern "C" {
         length: *mut u64,
     ) -> u64;
 
+    fn sundewfrill_ceiling(
+        item: *const u8,
+        item_length: usize,
+        code: *const u8,
+        code_length: usize,
+        a: u64,
+        v: u64,
+        s: u64,
+        ceiling: *mut u64,
+    ) -> u64;
+
     fn sundewfrill_typed_date(
         code: *const u8,
         code_length: usize,
@@ -71,13 +82,14 @@ extern "C" {
 /// library leaves unwritten cannot pass for one that it gave.
 const UNWRITTEN: u64 = u64::MAX;
 
-/// The five calls, to be held against another implementation's.
+/// The six calls, to be held against another implementation's.
 pub const IMPLEMENTATION: Implementation = Implementation {
     name: "the proved library",
     find,
     replace,
     check,
     convert,
+    ceiling,
     typed_date,
 };
 
@@ -187,6 +199,27 @@ pub fn convert(
         steps,
         length,
     }
+}
+
+/// The most that converting the elements of `record` at the place `at` by `code`
+/// can cost.
+pub fn ceiling(record: &[u8], code: &[u8], at: Address) -> Ceiling {
+    let mut ceiling = UNWRITTEN;
+    // SAFETY: both pairs are live slices that are only read; the number is live
+    // and ours alone during the call.
+    let refusal = unsafe {
+        sundewfrill_ceiling(
+            record.as_ptr(),
+            record.len(),
+            code.as_ptr(),
+            code.len(),
+            at.a,
+            at.v,
+            at.s,
+            &mut ceiling,
+        )
+    };
+    Ceiling { refusal, ceiling }
 }
 
 /// Reads `text` as a date typed in the form of the D code `code`.

@@ -3,9 +3,10 @@
 //!
 //! # The safe calls
 //!
-//! [`find`], [`replace`], [`check`], [`convert`] and [`typed_date`] call the
-//! proved library. They take byte slices, hand back structs, and refuse with a
-//! [`Refusal`], which has the paper's number and a sentence for the reader.
+//! [`find`], [`replace`], [`check`], [`convert`], [`ceiling`] and [`typed_date`]
+//! call the proved library. They take byte slices, hand back structs or numbers,
+//! and refuse with a [`Refusal`], which has the paper's number and a sentence for
+//! the reader.
 //!
 //! ```no_run
 //! # #[cfg(feature = "proved")]
@@ -47,10 +48,11 @@ mod refusal;
 pub use outcome::Address;
 #[cfg(feature = "proved")]
 pub use proved::{
-    check, convert, find, replace, typed_date, BadCode, Converted, Part, StepCounts, Stopped,
+    ceiling, check, convert, find, replace, typed_date, BadCode, Converted, Part, StepCounts,
+    Stopped,
 };
 pub use refusal::Refusal;
 
 /// The least length of the scratch lent to [`paper::convert`] and to the proved
-/// library's converting.
-pub const SCRATCH_LENGTH: usize = 20_480;
+/// library's converting: room for 20 entries.
+pub const SCRATCH_LENGTH: usize = 20 * paper::ENTRY_LENGTH;

@@ -70,6 +70,15 @@ pub struct Convert {
     pub length: u64,
 }
 
+/// The outcome of asking for the ceiling.
+#[derive(Clone, Copy, Debug, Default, PartialEq, Eq)]
+pub struct Ceiling {
+    /// The refusal number, 0 for none.
+    pub refusal: u64,
+    /// The most that all the steps of converting can cost.
+    pub ceiling: u64,
+}
+
 /// The outcome of reading a typed date.
 #[derive(Clone, Copy, Debug, Default, PartialEq, Eq)]
 pub struct TypedDate {
@@ -109,7 +118,7 @@ impl TypedDate {
 /// How converting is called: record, code, place, budget, output, scratch.
 pub type Converting = fn(&[u8], &[u8], Address, u64, &mut [u8], &mut [u8]) -> Convert;
 
-/// One that carries out the five calls of document 01.
+/// One that carries out the six calls of document 01.
 #[derive(Clone, Copy)]
 pub struct Implementation {
     /// What it is called in messages.
@@ -122,6 +131,8 @@ pub struct Implementation {
     pub check: fn(&[u8]) -> Check,
     /// Converting.
     pub convert: Converting,
+    /// The ceiling of converting: record, code, place.
+    pub ceiling: fn(&[u8], &[u8], Address) -> Ceiling,
     /// Reading a typed date: code, text.
     pub typed_date: fn(&[u8], &[u8]) -> TypedDate,
 }

@@ -140,6 +140,30 @@ pub fn convert<'o>(
     }
 }
 
+/// The most steps that [`convert`] can take on these: a budget as great as this
+/// is never used up.
+///
+/// It is worked out from the length of `record`, the number of elements inside
+/// the place `at` and the steps of `code`; nothing is converted.
+///
+/// ```
+/// use sundewfrill_host::{ceiling, Address, Refusal};
+///
+/// let record = b"K1\xfe10\xfd20\xfe3";
+/// let all_of_one = Address::new(1, 0, 0);
+/// assert_eq!(ceiling(record, b"F;1;2R;*", all_of_one), Ok(12_334));
+/// assert_eq!(ceiling(record, b"F;1;+", all_of_one), Err(Refusal::StackMisused));
+/// ```
+///
+/// # Errors
+///
+/// Refusals 1 to 7, as [`convert`] gives them before its run.
+pub fn ceiling(record: &[u8], code: &[u8], at: Address) -> Result<u64, Refusal> {
+    let outcome = ffi::ceiling(record, code, at);
+    accepted(outcome.refusal)?;
+    Ok(outcome.ceiling)
+}
+
 /// Reads `text` as a date typed in the form of the D code `code`, and gives its
 /// day; day 0 is 31 December 1967.
 ///

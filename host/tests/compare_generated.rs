@@ -2,7 +2,7 @@
 //! calls: refusals, counts, and every byte of output and scratch, on dirty
 //! buffers of many lengths.
 //!
-//! Needs the archive. A usual run has 1,000,000 calls with a fixed seed; each
+//! Needs the archive. A usual run has 1,100,000 calls with a fixed seed; each
 //! completed conversion is run again at its count and one below it. A longer
 //! run: `SUNDEWFRILL_CASES=20_000_000`; another one: `SUNDEWFRILL_SEED=7`.
 //! Progress is shown every few seconds. The calendar is gone through day by day.
@@ -12,12 +12,12 @@ mod common;
 use std::fmt::{Debug, Display};
 
 use common::buffers::Buffers;
-use common::calls::{ConvertCall, DateCall, PAPER, PROVED};
+use common::calls::{CeilingCall, ConvertCall, DateCall, PAPER, PROVED};
 use common::cases::cases;
 use common::generator;
 use common::laws;
 use common::progress::{Progress, USUAL_CASES};
-use sundewfrill_host::outcome::{Address, Convert};
+use sundewfrill_host::outcome::{Address, Ceiling, Convert};
 use sundewfrill_host::{paper, SCRATCH_LENGTH};
 
 /// Fails, with the call as the batch program reads it, unless both outcomes are
@@ -43,6 +43,13 @@ fn same_bytes(paper: &[u8], proved: &[u8], what: &str, call: &impl Display) {
         place.map(|place| paper[place]),
         place.map(|place| proved[place])
     );
+}
+
+/// The ceiling, the same on both sides.
+fn same_ceiling(call: &CeilingCall) -> Ceiling {
+    let (paper, proved) = (call.run(&PAPER), call.run(&PROVED));
+    same(&paper, &proved, "the ceiling", call);
+    proved
 }
 
 /// Buffers for either side.
@@ -86,7 +93,7 @@ fn find() {
 #[test]
 fn replace() {
     let mut both = Both::default();
-    let coverage = cases(USUAL_CASES, "replace", 2, 15, |rng, coverage| {
+    let coverage = cases(USUAL_CASES, "replace", 2, 14, |rng, coverage| {
         let call = generator::replace(rng, &mut both.paper);
         let paper = call.run(&PAPER, &mut both.paper);
         let proved = call.run(&PROVED, &mut both.proved);
@@ -101,7 +108,7 @@ fn replace() {
 
 #[test]
 fn check() {
-    let coverage = cases(USUAL_CASES, "check", 3, 20, |rng, coverage| {
+    let coverage = cases(USUAL_CASES, "check", 3, 19, |rng, coverage| {
         let call = generator::check(rng);
         let (paper, proved) = (call.run(&PAPER), call.run(&PROVED));
         same(&paper, &proved, "checking", &call);
@@ -114,12 +121,12 @@ fn check() {
 /// Converting, in two shares: they are most of the work, and run side by side.
 #[test]
 fn convert() {
-    convert_share("convert", 4, 23);
+    convert_share("convert", 4, 21);
 }
 
 #[test]
 fn convert_more() {
-    convert_share("convert, more", 7, 22);
+    convert_share("convert, more", 7, 21);
 }
 
 fn convert_share(name: &'static str, call: u64, percent: u64) {
@@ -128,7 +135,7 @@ fn convert_share(name: &'static str, call: u64, percent: u64) {
         let mut call = generator::convert(rng, &mut both.paper);
         let outcome = both.convert(&call);
         laws::convert(&call, &outcome, &both.proved);
-        laws::ceiling(&call, &outcome, &PROVED);
+        laws::within_ceiling(&call, &outcome, &same_ceiling(&call.ceiling()));
         coverage.convert(&call, &outcome);
         let answer = both.proved.output.after().to_vec();
         for (budget, enough) in laws::budgets(&outcome) {
@@ -138,6 +145,17 @@ fn convert_share(name: &'static str, call: u64, percent: u64) {
         }
     });
     coverage.require_of_convert();
+}
+
+#[test]
+fn ceiling() {
+    let coverage = cases(USUAL_CASES, "ceiling", 8, 5, |rng, coverage| {
+        let call = generator::ceiling(rng);
+        let outcome = same_ceiling(&call);
+        laws::ceiling(&call, &outcome, &PROVED);
+        coverage.ceiling(&call, &outcome);
+    });
+    coverage.require_of_ceiling();
 }
 
 #[test]

@@ -15,7 +15,7 @@ use common::{examples, laws};
 use sundewfrill_host::outcome::Address;
 
 /// How many calls a usual run has in all.
-const CASES: u64 = 300_000;
+const CASES: u64 = 340_000;
 
 #[test]
 fn examples() {
@@ -24,7 +24,7 @@ fn examples() {
 
 #[test]
 fn find() {
-    let coverage = cases(CASES, "find", 1, 10, |rng, coverage| {
+    let coverage = cases(CASES, "find", 1, 9, |rng, coverage| {
         let call = generator::find(rng);
         let outcome = call.run(&PAPER);
         laws::find(&call, &outcome);
@@ -36,7 +36,7 @@ fn find() {
 #[test]
 fn replace() {
     let mut buffers = Buffers::default();
-    let coverage = cases(CASES, "replace", 2, 20, |rng, coverage| {
+    let coverage = cases(CASES, "replace", 2, 18, |rng, coverage| {
         let call = generator::replace(rng, &mut buffers);
         let outcome = call.run(&PAPER, &mut buffers);
         laws::replace(&call, &outcome, &buffers);
@@ -55,7 +55,7 @@ fn replace() {
 
 #[test]
 fn check() {
-    let coverage = cases(CASES, "check", 3, 20, |rng, coverage| {
+    let coverage = cases(CASES, "check", 3, 18, |rng, coverage| {
         let call = generator::check(rng);
         let outcome = call.run(&PAPER);
         laws::check(&call, &outcome);
@@ -67,11 +67,11 @@ fn check() {
 #[test]
 fn convert() {
     let mut buffers = Buffers::default();
-    let coverage = cases(CASES, "convert", 4, 40, |rng, coverage| {
+    let coverage = cases(CASES, "convert", 4, 36, |rng, coverage| {
         let mut call = generator::convert(rng, &mut buffers);
         let outcome = call.run(&PAPER, &mut buffers);
         laws::convert(&call, &outcome, &buffers);
-        laws::ceiling(&call, &outcome, &PAPER);
+        laws::within_ceiling(&call, &outcome, &call.ceiling().run(&PAPER));
         coverage.convert(&call, &outcome);
         let answer = buffers.output.after().to_vec();
         for (budget, enough) in laws::budgets(&outcome) {
@@ -84,8 +84,19 @@ fn convert() {
 }
 
 #[test]
+fn ceiling() {
+    let coverage = cases(CASES, "ceiling", 8, 10, |rng, coverage| {
+        let call = generator::ceiling(rng);
+        let outcome = call.run(&PAPER);
+        laws::ceiling(&call, &outcome, &PAPER);
+        coverage.ceiling(&call, &outcome);
+    });
+    coverage.require_of_ceiling();
+}
+
+#[test]
 fn date() {
-    let coverage = cases(CASES, "date", 5, 10, |rng, coverage| {
+    let coverage = cases(CASES, "date", 5, 9, |rng, coverage| {
         let call = generator::date(rng);
         let outcome = call.run(&PAPER);
         laws::date(&call, &outcome);

@@ -3,8 +3,8 @@
 //! Needs the archive.
 
 use sundewfrill_host::{
-    check, convert, find, replace, typed_date, Address, BadCode, Converted, Refusal, StepCounts,
-    Stopped, SCRATCH_LENGTH,
+    ceiling, check, convert, find, replace, typed_date, Address, BadCode, Converted, Refusal,
+    StepCounts, Stopped, SCRATCH_LENGTH,
 };
 
 const RECORD: &[u8] = b"K1\xfe10\xfd20\xfe3";
@@ -80,6 +80,32 @@ fn converting() {
         .starts_with("after 56 steps: refusal 15: The budget"));
     assert_eq!(output, [0; 8]);
     assert!(scratch.iter().all(|&byte| byte == 0));
+}
+
+#[test]
+fn ceilings() {
+    let all_of_one = Address::new(1, 0, 0);
+    assert_eq!(ceiling(RECORD, b"F;1;2R;*", all_of_one), Ok(12_334));
+    assert_eq!(ceiling(RECORD, b"", all_of_one), Ok(0));
+    assert_eq!(ceiling(RECORD, b"L", Address::new(9, 0, 0)), Ok(4_097));
+    for (record, code, at, refusal) in [
+        (RECORD, "L", Address::new(1, 0, 1), Refusal::BadAddress),
+        (RECORD, "F;1;+", all_of_one, Refusal::StackMisused),
+        (RECORD, "?", all_of_one, Refusal::NotInGrammar),
+        (b"\xff", "?", all_of_one, Refusal::ByteNotForRecords),
+    ] {
+        assert_eq!(ceiling(record, code.as_bytes(), at), Err(refusal));
+    }
+}
+
+/// A budget as great as the ceiling is never used up.
+#[test]
+fn a_ceiling_is_enough() {
+    let (mut output, mut scratch) = ([0; 8], [0; SCRATCH_LENGTH]);
+    let at = Address::new(1, 0, 0);
+    let most = ceiling(RECORD, b"F;1;2R;*", at).unwrap();
+    let whole = convert(RECORD, b"F;1;2R;*", at, most, &mut output, &mut scratch);
+    assert_eq!(whole.unwrap().steps, 62);
 }
 
 #[test]

@@ -10,6 +10,7 @@
 //! | `replace` record a v s new output-length | refusal length answer |
 //! | `check` code | refusal code-number A B |
 //! | `convert` record code a v s budget output-length scratch-length | refusal steps length answer |
+//! | `ceilingof` record code a v s | the ceiling, 0 where it is refused |
 //! | `date` code text | refusal day |
 //!
 //! The buffers are dirty before each call; should the library not leave them as
@@ -77,6 +78,7 @@ fn answer(line: &str) -> Result<String, Fault> {
         "replace" => replace(line),
         "check" => check(line),
         "convert" => convert(line),
+        "ceilingof" => ceiling(line),
         "date" => date(line),
         _ => Err(Fault::Unreadable("no call has this name")),
     }
@@ -140,6 +142,14 @@ fn convert(mut line: Line) -> Result<String, Fault> {
         outcome.length,
         fields::write(answer)
     ))
+}
+
+fn ceiling(mut line: Line) -> Result<String, Fault> {
+    let record = line.bytes()?;
+    let code = line.bytes()?;
+    let at = line.address()?;
+    line.end()?;
+    Ok(ffi::ceiling(&record, &code, at).ceiling.to_string())
 }
 
 fn date(mut line: Line) -> Result<String, Fault> {

@@ -13,7 +13,7 @@ use std::process::ExitCode;
 use std::time::{Duration, Instant};
 
 use sundewfrill_host::outcome::{
-    Address, Check, Convert, Find, Implementation, Replace, TypedDate,
+    Address, Ceiling, Check, Convert, Find, Implementation, Replace, TypedDate,
 };
 use sundewfrill_host::{ffi, paper, SCRATCH_LENGTH};
 
@@ -58,6 +58,11 @@ enum Call {
         at: Address,
         output_length: usize,
     },
+    Ceiling {
+        record: Vec<u8>,
+        code: Vec<u8>,
+        at: Address,
+    },
     TypedDate {
         code: Vec<u8>,
         text: Vec<u8>,
@@ -71,6 +76,7 @@ enum Outcome {
     Replace(Replace),
     Check(Check),
     Convert(Convert),
+    Ceiling(Ceiling),
     TypedDate(TypedDate),
 }
 
@@ -81,6 +87,7 @@ impl Outcome {
             Outcome::Replace(outcome) => outcome.refusal,
             Outcome::Check(outcome) => outcome.refusal,
             Outcome::Convert(outcome) => outcome.refusal,
+            Outcome::Ceiling(outcome) => outcome.refusal,
             Outcome::TypedDate(outcome) => outcome.refusal,
         }
     }
@@ -143,6 +150,9 @@ impl Call {
                 &mut buffers.output,
                 &mut buffers.scratch,
             )),
+            Call::Ceiling { record, code, at } => {
+                Outcome::Ceiling((side.ceiling)(black_box(record), black_box(code), *at))
+            }
             Call::TypedDate { code, text } => {
                 Outcome::TypedDate((side.typed_date)(black_box(code), black_box(text)))
             }
@@ -291,15 +301,31 @@ fn workloads() -> Vec<Workload> {
     workloads.extend(long_elements());
     workloads.extend(checks());
     workloads.extend(at_end());
-    workloads.push(Workload {
-        name: "16,000 empty values through MCU",
-        call: convert(column(16_000, |_| Vec::new()), b"MCU", 32_768),
-    });
-    workloads.push(Workload {
-        name: "16,000 empty values, no codes",
-        call: convert(column(16_000, |_| Vec::new()), b"", 32_768),
-    });
+    workloads.extend(empty_values());
     workloads
+}
+
+/// What it takes to go over elements.
+fn empty_values() -> Vec<Workload> {
+    let record = column(16_000, |_| Vec::new());
+    vec![
+        Workload {
+            name: "16,000 empty values through MCU",
+            call: convert(record.clone(), b"MCU", 32_768),
+        },
+        Workload {
+            name: "16,000 empty values, no codes",
+            call: convert(record.clone(), b"", 32_768),
+        },
+        Workload {
+            name: "the ceiling of 16,000 values: two loads, product, mask",
+            call: Call::Ceiling {
+                record,
+                code: b"F;1;2;*\xfdMR2,$(#16)".to_vec(),
+                at: Address::new(1, 0, 0),
+            },
+        },
+    ]
 }
 
 /// Case changes and hex on 30 elements of 1,000 bytes or so.

@@ -5,7 +5,7 @@
 //! are compared on all they give, every byte of output and scratch included.
 //! The rules are the paper's; the comments say only how they are carried out.
 //!
-//! The five calls and the program are in this file. Below it:
+//! The six calls and the program are in this file. Below it:
 //!
 //! - `record`: marks, addresses, finding and replacing;
 //! - [`grammar`]: from a code string to its codes;
@@ -25,7 +25,7 @@ mod run;
 mod stack;
 mod text;
 
-use crate::outcome::{Address, Check, Convert, Find, Implementation, Replace, TypedDate};
+use crate::outcome::{Address, Ceiling, Check, Convert, Find, Implementation, Replace, TypedDate};
 use crate::refusal::Refusal;
 
 pub use program::{program, program_with};
@@ -58,13 +58,14 @@ pub const BUFFER_MARK: u8 = 251;
 /// The least of the five marks; all bytes from here on are marks.
 pub const LEAST_MARK: u8 = BUFFER_MARK;
 
-/// The five calls, to be held against another implementation's.
+/// The six calls, to be held against another implementation's.
 pub const IMPLEMENTATION: Implementation = Implementation {
     name: "the independent implementation",
     find,
     replace,
     check,
     convert,
+    ceiling,
     typed_date,
 };
 
@@ -129,6 +130,21 @@ pub fn convert(
     }
 }
 
+/// The most that converting the elements of `record` at the place `at` by `code`
+/// can cost.
+pub fn ceiling(record: &[u8], code: &[u8], at: Address) -> Ceiling {
+    match run::ceiling(record, code, at) {
+        Ok(ceiling) => Ceiling {
+            refusal: 0,
+            ceiling,
+        },
+        Err(refusal) => Ceiling {
+            refusal: refusal.number(),
+            ..Ceiling::default()
+        },
+    }
+}
+
 /// Reads `text` as a date typed in the form of the D code `code`.
 pub fn typed_date(code: &[u8], text: &[u8]) -> TypedDate {
     match grammar::date_code(code).and_then(|form| calendar::read(form, text)) {
@@ -138,24 +154,6 @@ pub fn typed_date(code: &[u8], text: &[u8]) -> TypedDate {
             ..TypedDate::default()
         },
     }
-}
-
-/// The most that a run can cost: `elements` elements through codes with
-/// `loads` attribute loads and `others` other steps, on a record of
-/// `record_length` bytes.
-pub fn ceiling(elements: u64, loads: u64, others: u64, record_length: u64) -> u64 {
-    elements * (loads * (1_025 + record_length) + others * 4_097)
-}
-
-/// How many elements converting takes from the place `at`; 1 at a missing
-/// place.
-///
-/// # Errors
-///
-/// Refusals 1 to 4, as finding gives them.
-pub fn element_count(record: &[u8], at: Address) -> Result<u64, Refusal> {
-    record::admit(record, at)?;
-    Ok(record::elements(record, at).count() as u64)
 }
 
 /// Leaves `output` as every call must: the answer and then zeros, or zeros

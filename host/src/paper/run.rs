@@ -48,6 +48,18 @@ pub fn convert(
     answer.finish()
 }
 
+/// The most that a conversion can cost: refusals 1 to 7, as before a run.
+pub fn ceiling(record: &[u8], code: &[u8], at: Address) -> Result<u64, Refusal> {
+    record::admit(record, at)?;
+    let counts = grammar::check(code).map_err(|bad| bad.refusal)?;
+    // A load costs the record and an entry; no other step meets more than four
+    // entries: `[]` takes three and puts one, `_` takes two and puts two.
+    let load = 1 + ENTRY_LENGTH + record.len();
+    let other = 1 + 4 * ENTRY_LENGTH;
+    let elements = record::elements(record, at).count() as u64;
+    Ok(elements * (counts.loads * load as u64 + counts.others * other as u64))
+}
+
 /// The answer as it grows. Once the output is too short for it, only its length
 /// does.
 struct Answer<'a> {

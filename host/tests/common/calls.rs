@@ -1,9 +1,9 @@
-//! The five calls with their arguments, and the implementations that take them.
+//! The six calls with their arguments, and the implementations that take them.
 
 use std::fmt;
 
 use sundewfrill_host::outcome::{
-    Address, Check, Convert, Find, Implementation, Replace, TypedDate,
+    Address, Ceiling, Check, Convert, Find, Implementation, Replace, TypedDate,
 };
 use sundewfrill_host::{fields, paper};
 
@@ -77,6 +77,29 @@ impl ConvertCall {
         let (record, code) = (&self.record, &self.code);
         (implementation.convert)(record, code, self.at, self.budget, output, scratch)
     }
+
+    /// The call for the ceiling of this one.
+    pub fn ceiling(&self) -> CeilingCall {
+        CeilingCall {
+            record: self.record.clone(),
+            code: self.code.clone(),
+            at: self.at,
+        }
+    }
+}
+
+/// A call for the ceiling of converting.
+#[derive(Clone, Debug, Default)]
+pub struct CeilingCall {
+    pub record: Vec<u8>,
+    pub code: Vec<u8>,
+    pub at: Address,
+}
+
+impl CeilingCall {
+    pub fn run(&self, implementation: &Implementation) -> Ceiling {
+        (implementation.ceiling)(&self.record, &self.code, self.at)
+    }
 }
 
 /// A call of reading a typed date.
@@ -128,6 +151,14 @@ impl fmt::Display for ConvertCall {
             "convert\t{record}\t{code}\t{a}\t{v}\t{s}\t{}\t{}\t{}",
             self.budget, self.output_length, self.scratch_length
         )
+    }
+}
+
+impl fmt::Display for CeilingCall {
+    fn fmt(&self, f: &mut fmt::Formatter<'_>) -> fmt::Result {
+        let Address { a, v, s } = self.at;
+        let (record, code) = (fields::write(&self.record), fields::write(&self.code));
+        write!(f, "ceilingof\t{record}\t{code}\t{a}\t{v}\t{s}")
     }
 }
 

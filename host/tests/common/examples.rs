@@ -1,6 +1,6 @@
 //! The examples of document 01, and the points at which its readings part.
 
-use sundewfrill_host::outcome::{Address, Check, Convert, Implementation, TypedDate};
+use sundewfrill_host::outcome::{Address, Ceiling, Check, Convert, Implementation, TypedDate};
 use sundewfrill_host::{paper, SCRATCH_LENGTH};
 
 use super::buffers::Buffers;
@@ -53,6 +53,7 @@ fn given(implementation: &Implementation, code: &str, element: &str) -> (u64, St
 /// Runs all examples.
 pub fn run(implementation: &Implementation) {
     counted(implementation);
+    ceilings(implementation);
     single_codes(implementation);
     lengths(implementation);
     replacing(implementation);
@@ -60,7 +61,7 @@ pub fn run(implementation: &Implementation) {
     typed_dates(implementation);
 }
 
-/// Steps, budget and ceiling.
+/// Steps and budget.
 fn counted(implementation: &Implementation) {
     let record = marked("K1^10]20^3");
     let at = Address::new(1, 0, 0);
@@ -80,15 +81,40 @@ fn counted(implementation: &Implementation) {
         length: 0,
     };
     assert_eq!(short, (expected, Vec::new()));
-    let counts = (implementation.check)(b"F;1;2R;*");
-    let elements = paper::element_count(&record, at).unwrap();
-    assert_eq!(
-        paper::ceiling(elements, counts.loads, counts.others, 10),
-        12_334
-    );
     let input = b"F;1;2R;*\n1,0,0\nK1\xfe10\xfd20\xfe3";
     let output = paper::program_with(input, implementation.convert);
     assert_eq!(output, b"0 62 30]60\n");
+}
+
+/// Ceilings, and what is refused before a run.
+fn ceilings(implementation: &Implementation) {
+    let whole = (1, 0, 0);
+    for (record, code, (a, v, s), refusal, ceiling) in [
+        ("K1^10]20^3", "F;1;2R;*", whole, 0, 12_334),
+        // The elements of a value, of a subvalue, of the id, of a missing place.
+        ("K1^A\\B]C^D", "L", whole, 0, 3 * 4_097),
+        ("K1^A\\B]C^D", "L", (1, 1, 0), 0, 2 * 4_097),
+        ("K1^A\\B]C^D", "L", (1, 1, 2), 0, 4_097),
+        ("K1^A\\B]C^D", "F;0", (0, 0, 0), 0, 1_025 + 10),
+        ("K1", "F;1;LPV]MCU", (7, 0, 0), 0, 1_025 + 2 + 2 * 4_097),
+        ("K1", "", whole, 0, 0),
+        // An element over 1,024 bytes is refused by the run alone.
+        (&["K1^", &"A".repeat(1_025)].concat(), "L", whole, 0, 4_097),
+        // In converting's order.
+        (&"A".repeat(32_769), "?", (1, 0, 1), 1, 0),
+        ("A]^", "?", (1, 0, 1), 3, 0),
+        ("K1", "?", (1, 0, 1), 4, 0),
+        ("K1", &"?".repeat(513), whole, 5, 0),
+        ("K1", "L]F;1;+;?", whole, 6, 0),
+        ("K1", "L]F;1;+]?", whole, 7, 0),
+    ] {
+        let at = Address::new(a, v, s);
+        let outcome = (implementation.ceiling)(&marked(record), &marked(code), at);
+        let expected = Ceiling { refusal, ceiling };
+        assert_eq!(outcome, expected, "{code} on {record} at {at:?}");
+    }
+    let outcome = (implementation.ceiling)(b"A\xfd\xff", b"?", Address::new(1, 0, 1));
+    assert_eq!((outcome.refusal, outcome.ceiling), (2, 0));
 }
 
 /// What single codes give, or with which number they refuse.

@@ -4,12 +4,12 @@ use std::fmt::Display;
 use std::ops::RangeInclusive;
 
 use sundewfrill_host::outcome::{
-    Address, Check, Convert, Find, Implementation, Replace, TypedDate,
+    Address, Ceiling, Check, Convert, Find, Implementation, Replace, TypedDate,
 };
 use sundewfrill_host::paper;
 
 use super::buffers::{all_zero, Buffers};
-use super::calls::{CheckCall, ConvertCall, DateCall, FindCall, ReplaceCall};
+use super::calls::{CeilingCall, CheckCall, ConvertCall, DateCall, FindCall, ReplaceCall};
 
 /// The days of the calendar.
 pub const DAYS: RangeInclusive<i64> = -718_430..=2_933_628;
@@ -131,21 +131,40 @@ pub fn convert(call: &ConvertCall, outcome: &Convert, buffers: &Buffers) {
     );
 }
 
-/// A run that came to its end cost no more than its ceiling.
-pub fn ceiling(call: &ConvertCall, outcome: &Convert, implementation: &Implementation) {
-    if !came_to_end(outcome) {
-        return;
-    }
+/// The ceiling is what document 01 makes of the numbers that finding and
+/// checking give; where one of them refuses, so does the ceiling.
+pub fn ceiling(call: &CeilingCall, outcome: &Ceiling, implementation: &Implementation) {
+    let found = (implementation.find)(&call.record, call.at);
     let counts = (implementation.check)(&call.code);
-    let elements = paper::element_count(&call.record, call.at).expect("the call was accepted");
+    let refusal = match found.refusal {
+        0 => counts.refusal,
+        refusal => refusal,
+    };
+    let marks = part(&call.record, &found).iter();
+    let elements = 1 + marks.filter(|&&byte| byte >= paper::LEAST_MARK).count() as u64;
     let length = call.record.len() as u64;
-    let ceiling = paper::ceiling(elements, counts.loads, counts.others, length);
-    law(
-        outcome.steps <= ceiling,
-        &format!("the ceiling {ceiling}"),
-        call,
-        outcome,
-    );
+    let ceiling = match refusal {
+        0 => elements * (counts.loads * (1_025 + length) + counts.others * 4_097),
+        _ => 0,
+    };
+    let expected = Ceiling { refusal, ceiling };
+    law(*outcome == expected, "the ceiling", call, outcome);
+}
+
+/// What is refused before the run, with its number, and no more steps than the
+/// ceiling says.
+pub fn within_ceiling(call: &ConvertCall, outcome: &Convert, ceiling: &Ceiling) {
+    let name = format!("converting, for its {ceiling:?}");
+    law(is_within(outcome, ceiling), &name, call, outcome);
+}
+
+/// Whether an outcome of converting and a ceiling can be those of one call.
+pub fn is_within(outcome: &Convert, ceiling: &Ceiling) -> bool {
+    let before_run = match outcome.refusal {
+        refusal @ 1..=7 => refusal,
+        _ => 0,
+    };
+    before_run == ceiling.refusal && outcome.steps <= ceiling.ceiling
 }
 
 /// Whether all steps were completed: nothing was refused, or only the output

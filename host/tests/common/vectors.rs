@@ -9,6 +9,7 @@ use sundewfrill_host::{fields, paper};
 
 use super::buffers::{all_zero, Buffers};
 use super::calls::{CheckCall, ConvertCall, DateCall, FindCall, ReplaceCall};
+use super::laws;
 
 /// The files and how many rows each has.
 pub const FILES: [(&str, usize); 7] = [
@@ -140,7 +141,8 @@ pub fn check(implementation: &Implementation) {
     });
 }
 
-/// convert.tsv or give.tsv, output and scratch dirty before the call.
+/// convert.tsv or give.tsv, output and scratch dirty before the call. The ceiling
+/// of each call must suit what the row expects.
 pub fn convert(name: &str, implementation: &Implementation) {
     let mut buffers = Buffers::default();
     rows(name, implementation.name, |row| {
@@ -157,11 +159,14 @@ pub fn convert(name: &str, implementation: &Implementation) {
             steps: row.number(),
             length: row.number(),
         };
-        let expected = (expected, row.bytes(), true);
+        let ceiling = call.ceiling().run(implementation);
+        let within = laws::is_within(&expected, &ceiling);
+        let expected = (expected, row.bytes(), true, (ceiling, true));
         let outcome = call.run(implementation, &mut buffers);
         let (answer, behind) = buffers.output.after().split_at(outcome.length as usize);
         let clear = all_zero(behind) && all_zero(buffers.scratch.after());
-        unlike((outcome, answer.to_vec(), clear), expected)
+        let given = (outcome, answer.to_vec(), clear, (ceiling, within));
+        unlike(given, expected)
     });
 }
 

@@ -1,12 +1,14 @@
 //! What the calls of each kind have reached, and what they must reach: the
 //! limits of document 01 on both sides.
 
-use sundewfrill_host::outcome::{Address, Check, Convert, Find, Replace, TypedDate};
+use sundewfrill_host::outcome::{Address, Ceiling, Check, Convert, Find, Replace, TypedDate};
 use sundewfrill_host::paper::grammar::{self, Code, Conversion, Elm, Operator};
 use sundewfrill_host::paper::{self, ATTRIBUTE_MARK, LEAST_MARK};
 
 use super::super::buffers::Buffers;
-use super::super::calls::{CheckCall, ConvertCall, DateCall, FindCall, ReplaceCall, PAPER};
+use super::super::calls::{
+    CeilingCall, CheckCall, ConvertCall, DateCall, FindCall, ReplaceCall, PAPER,
+};
 use super::super::laws::{came_to_end, DAYS};
 use super::steps::{deepest, STEPS};
 use super::Coverage;
@@ -39,6 +41,13 @@ impl Coverage {
         self.require("convert", &refusals, &tags);
     }
 
+    /// Fails unless the ceiling has reached everything.
+    pub fn require_of_ceiling(&self) {
+        let refusals: Vec<u64> = (1..=7).collect();
+        let tags: [&[&str]; 4] = [&STEPS.concat(), &PLACES, &STRINGS, &CEILINGS];
+        self.require("ceiling", &refusals, &tags);
+    }
+
     /// Fails unless reading typed dates has reached everything.
     pub fn require_of_date(&self) {
         self.require("date", &[5, 6, 12], &[&DATES]);
@@ -62,6 +71,16 @@ const CONVERTS: [&str; 13] = [
     "missing place", "element of 1,024", "element of 1,025", "MX on 512", "MX on 513",
     "longest record run", "answer over 65,536", "budget met exactly", "budget one short",
     "output met exactly", "output one short", "scratch of 20,480", "scratch of 20,479",
+];
+const CEILINGS: [&str; 8] = [
+    "ceiling of a missing place",
+    "ceiling of the id",
+    "ceiling of one element",
+    "ceiling of 32,768 elements",
+    "ceiling of 0",
+    "ceiling past 32 bits",
+    "element of 1,024 let in",
+    "element of 1,025 let in",
 ];
 const DATES: [&str; 13] = [
     "code string of 512", "code string of 513", "typed with s", "typed without s",
@@ -152,6 +171,32 @@ impl Coverage {
         let longest = call.record.len() == 32_768;
         self.tag_if(accepted && longest, "longest record run");
         self.tag_if(accepted && outcome.length > 65_536, "answer over 65,536");
+    }
+
+    /// Notes what a call for the ceiling has reached.
+    pub fn ceiling(&mut self, call: &CeilingCall, outcome: &Ceiling) {
+        let accepted = outcome.refusal == 0;
+        self.refusal(outcome.refusal);
+        let found = paper::find(&call.record, call.at);
+        self.place(&call.record, call.at, found.refusal);
+        self.code_string(&call.code, outcome.refusal);
+        let part = &call.record[found.start as usize..][..found.length as usize];
+        let marks = part.iter().filter(|&&byte| byte >= LEAST_MARK).count();
+        let some = accepted && outcome.ceiling > 0;
+        let there = some && found.found == 1;
+        self.tag_if(some && !there, "ceiling of a missing place");
+        self.tag_if(there && call.at.a == 0, "ceiling of the id");
+        self.tag_if(there && marks == 0, "ceiling of one element");
+        self.tag_if(there && marks == 32_767, "ceiling of 32,768 elements");
+        self.tag_if(accepted && !some, "ceiling of 0");
+        let wide = outcome.ceiling > u64::from(u32::MAX);
+        self.tag_if(accepted && wide, "ceiling past 32 bits");
+        for (length, tag) in [
+            (1_024, "element of 1,024 let in"),
+            (1_025, "element of 1,025 let in"),
+        ] {
+            self.tag_if(there && marks == 0 && part.len() == length, tag);
+        }
     }
 
     /// Notes what a reading of a typed date has reached.

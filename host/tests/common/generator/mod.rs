@@ -14,7 +14,7 @@ use sundewfrill_host::outcome::Address;
 use sundewfrill_host::{paper, Refusal, SCRATCH_LENGTH};
 
 use super::buffers::Buffers;
-use super::calls::{CheckCall, ConvertCall, DateCall, FindCall, ReplaceCall, PAPER};
+use super::calls::{CeilingCall, CheckCall, ConvertCall, DateCall, FindCall, ReplaceCall, PAPER};
 pub use elements::Kind;
 pub use rng::Rng;
 
@@ -186,6 +186,28 @@ fn scratch_length(rng: &mut Rng) -> usize {
         10 => 65_536 + rng.below(100) as usize,
         _ => SCRATCH_LENGTH,
     }
+}
+
+/// A call for the ceiling of converting.
+pub fn ceiling(rng: &mut Rng) -> CeilingCall {
+    let (record, code, at) = match rng.below(200) {
+        0 => vast_run(rng),
+        _ => suited(rng),
+    };
+    CeilingCall { record, code, at }
+}
+
+/// As many elements as a record has, or nearly, each through many steps.
+fn vast_run(rng: &mut Rng) -> (Vec<u8>, Vec<u8>, Address) {
+    let mut record = rng.pick(&["", "", "K1"]).as_bytes().to_vec();
+    record.push(paper::ATTRIBUTE_MARK);
+    let mark = *rng.pick(&[paper::VALUE_MARK, paper::SUBVALUE_MARK]);
+    record.resize(paper::RECORD_LENGTH, mark);
+    let one = *rng.pick(&["L", "F;1", "F;0RR", "F;LPV;1", "F;1;2;3;4;5;6;7;8"]);
+    let most = (paper::CODE_LENGTH + 1) / (one.len() + 1);
+    let count = rng.between(1, most as u64) as usize;
+    let code = vec![one.as_bytes(); count].join(&paper::VALUE_MARK);
+    (record, code, Address::new(1, 0, 0))
 }
 
 /// A call of reading a typed date.
