@@ -25,7 +25,8 @@ const USUAL_COMMAND: &str = concat!(env!("CARGO_MANIFEST_DIR"), "/../target/bin/
 /// How many inputs are generated: each is a process of its own.
 const CASES: u64 = 1_000;
 
-/// What the program writes for this input.
+/// What the program writes for this input; on standard error it must write
+/// nothing.
 fn program(input: &[u8]) -> Vec<u8> {
     let command = env::var(COMMAND_VARIABLE);
     let words = match &command {
@@ -36,6 +37,7 @@ fn program(input: &[u8]) -> Vec<u8> {
         .args(&words[1..])
         .stdin(Stdio::piped())
         .stdout(Stdio::piped())
+        .stderr(Stdio::piped())
         .spawn()
         .unwrap_or_else(|error| panic!("{words:?}: {error}"));
     let mut stdin = child.stdin.take().expect("its input is ours");
@@ -44,6 +46,8 @@ fn program(input: &[u8]) -> Vec<u8> {
     drop(stdin);
     let output = child.wait_with_output().expect("the program ends");
     assert!(output.status.success(), "{words:?}: {}", output.status);
+    let said = String::from_utf8_lossy(&output.stderr);
+    assert_eq!(said, "", "standard error, for the input {input:02x?}");
     output.stdout
 }
 
@@ -97,6 +101,35 @@ fn generated() {
     }
     progress.finish(&coverage.summary());
     coverage.require("program", &[4, 6, 7, 10, 12], &[]);
+}
+
+/// The record ends where the input does, with a line end or without one. Its
+/// last attribute is asked for, so a byte more or less would be seen.
+#[test]
+fn end_of_input() {
+    const INPUT: &[u8] = b"F;1;LPV;:\n1,0,0\nK1\xfeab";
+    for (input, expected) in [
+        (INPUT, "0 20 abab\n"),
+        (&[INPUT, b"\n"].concat(), "0 20 abab\n"),
+        (&[INPUT, b"\n\0"].concat(), "0 20 abab\n"),
+        (&[INPUT, b"\0"].concat(), "0 27 ab\0ab\0\n"),
+        (&INPUT[..INPUT.len() - 1], "0 13 aa\n"),
+        (b"L\n1,0,0", "0 2 0\n"),
+        (b"", "4 0 \n"),
+    ] {
+        assert_eq!(String::from_utf8_lossy(&compared(input)), expected);
+    }
+}
+
+/// 65,536 bytes are read: an address that ends with them is whole, one that
+/// would end a byte later is not.
+#[test]
+fn end_of_reading() {
+    for (length, expected) in [(65_536, "5 0 \n"), (65_537, "4 0 \n")] {
+        let mut input = vec![b'L'; length - 6];
+        input.extend_from_slice(b"\n1,0,0");
+        assert_eq!(String::from_utf8_lossy(&compared(&input)), expected);
+    }
 }
 
 /// The budget and the output of the program, each met exactly and passed by
