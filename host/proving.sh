@@ -19,14 +19,21 @@ crates_needed() { # NAME...
 # Shows each crate that rt has proved in this run, and is silent about those that were proved before.
 show_proved() { # WHO TOTAL, what rt says on standard input
     local count=0 line
-    while IFS= read -r line; do
-        case $line in
-        'rt: '*' proved (unchanged '*) count=$((count + 1)) ;;
-        'rt: '*' proved ('*' s)')
-            count=$((count + 1))
-            echo "$1: ${line#rt: }, $count of $2" >&2
-            ;;
-        esac
+    while true; do
+        if IFS= read -r -t 30 line; then
+            case $line in
+            'rt: '*' proved (unchanged '*) count=$((count + 1)) ;;
+            'rt: '*' proved ('*' s)')
+                count=$((count + 1))
+                echo "$1: ${line#rt: }, $count of $2" >&2
+                ;;
+            esac
+        elif [ $? -gt 128 ]; then
+            # above 128: there was no line in time; one crate alone can take minutes
+            echo "$1: still proving, $SECONDS s so far" >&2
+        else
+            return 0
+        fi
     done
 }
 
