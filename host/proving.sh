@@ -45,7 +45,7 @@ proving() ( # WHO VERB NAME...
     trap 'rm -f "$log"' EXIT
     total=$(crates_needed "${@:2}")
     [ -d target/stamp ] || echo "$who: proving $total crates, some minutes the first time" >&2
-    rt "$@" 2>&1 | tee "$log" | show_proved "$who" "$total"
+    rt "$@" 2>&1 </dev/null | tee "$log" | show_proved "$who" "$total"
     status=${PIPESTATUS[0]}
     [ "$status" -eq 0 ] || tail -n 30 "$log" >&2
     exit "$status"
