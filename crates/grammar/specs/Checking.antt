@@ -67,7 +67,7 @@ unfoldable pub judged-of : Res paper.Code → Judged
 judged-of (given c) = Judged.Lawful (code-count true c) (code-count false c)
 judged-of (refused n) = Judged.Faulty n
 
-unfoldable pub fault-in : Judged → ℕ
+abbrev pub fault-in : Judged → ℕ
 fault-in (Judged.Lawful loads others) = 0
 fault-in (Judged.Faulty n) = n
 

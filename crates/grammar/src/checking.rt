@@ -31,7 +31,6 @@ ghost use Rattle.grammar.specs.Checking.{
   elms-from,
   finished,
   judged-of,
-  fault-in,
   code-end,
   stray,
   verdict-of,
@@ -214,19 +213,6 @@ fn stray(code: &[u8], at: usize) -> bool
     }
 }
 
-// The number of a code's fault; 0 where it has none.
-fn fault(judged: Judged) -> u64
-    ensures { λ r. ⌜ r ≡ fault-in judged ⌝ }
-{
-    match judged {
-        Judged::Lawful {
-            loads: _,
-            others: _,
-        } => 0,
-        Judged::Faulty(number) => number,
-    }
-}
-
 // "then the first bad code, 6 or 7, with that code's number from 1"
 pub(crate) fn check_codes(code: &[u8]) -> Verdict
     ensures { λ r. ⌜ r ≡ verdict-of (judged-all 1 (split value-mark (now (code .entry)))) ⌝ }
@@ -250,7 +236,7 @@ pub(crate) fn check_codes(code: &[u8]) -> Verdict
         } = judged
         else {
             return Verdict::Refused {
-                number: fault(judged),
+                number: judged.fault(),
                 code: number,
             };
         };

@@ -25,7 +25,7 @@ ghost use Rattle.paper.specs.TypedDates.{typed-by, typed-date};
 ghost use Rattle.codes.specs.Meaning.{conversion-of};
 ghost use Rattle.dates.specs.Dated.{typed-of};
 ghost use Rattle.grammar.specs.Answers.{num-refusal, fill-refusal, conversion-refusal, elm-refusal};
-ghost use Rattle.grammar.specs.Checking.{head-refusal, verdict-of, report-in};
+ghost use Rattle.grammar.specs.Checking.{head-refusal, fault-in, verdict-of, report-in};
 
 // The byte at a place, and the place after it.
 pub(crate) struct Ahead {
@@ -70,40 +70,8 @@ pub(crate) enum ReadNum {
     Refused(u64),
 }
 
-pub(crate) enum ReadFill {
-    Fill { fill: Fill, next: usize },
-    Refused(u64),
-}
-
-pub(crate) enum ReadConversion {
-    Conversion { conversion: Conversion, next: usize },
-    Refused(u64),
-}
-
-pub enum ReadElm {
-    Elm { elm: Elm, next: usize },
-    Refused(u64),
-}
-
-// What one whole code begins with.
-pub enum Head {
-    Function { first: usize },
-    Single(Conversion),
-}
-
-pub enum ReadHead {
-    Head(Head),
-    Refused(u64),
-}
-
-// A typed address, or the refusal's number, 4.
-pub enum ReadAddress {
-    Address { a: u64, v: u64, s: u64 },
-    Refused(u64),
-}
-
-// The number that a refused answer carries, to be passed up; 0 for another.
 impl ReadNum {
+    // the number to pass up where this is a refusal
     pub(crate) fn refusal(self) -> u64
         ensures { λ r. ⌜ r ≡ num-refusal self ⌝ }
     {
@@ -114,7 +82,13 @@ impl ReadNum {
     }
 }
 
+pub(crate) enum ReadFill {
+    Fill { fill: Fill, next: usize },
+    Refused(u64),
+}
+
 impl ReadFill {
+    // the number to pass up where this is a refusal
     pub(crate) fn refusal(self) -> u64
         ensures { λ r. ⌜ r ≡ fill-refusal self ⌝ }
     {
@@ -125,7 +99,13 @@ impl ReadFill {
     }
 }
 
+pub(crate) enum ReadConversion {
+    Conversion { conversion: Conversion, next: usize },
+    Refused(u64),
+}
+
 impl ReadConversion {
+    // the number to pass up where this is a refusal
     pub(crate) fn refusal(self) -> u64
         ensures { λ r. ⌜ r ≡ conversion-refusal self ⌝ }
     {
@@ -139,7 +119,13 @@ impl ReadConversion {
     }
 }
 
+pub enum ReadElm {
+    Elm { elm: Elm, next: usize },
+    Refused(u64),
+}
+
 impl ReadElm {
+    // the number to pass up where this is a refusal
     pub fn refusal(self) -> u64
         ensures { λ r. ⌜ r ≡ elm-refusal self ⌝ }
     {
@@ -150,7 +136,19 @@ impl ReadElm {
     }
 }
 
+// What one whole code begins with.
+pub enum Head {
+    Function { first: usize },
+    Single(Conversion),
+}
+
+pub enum ReadHead {
+    Head(Head),
+    Refused(u64),
+}
+
 impl ReadHead {
+    // the number to pass up where this is a refusal
     pub fn refusal(self) -> u64
         ensures { λ r. ⌜ r ≡ head-refusal self ⌝ }
     {
@@ -161,10 +159,31 @@ impl ReadHead {
     }
 }
 
+// A typed address, or the refusal's number, 4.
+pub enum ReadAddress {
+    Address { a: u64, v: u64, s: u64 },
+    Refused(u64),
+}
+
 // One code: its attribute loads and other steps, or its fault.
 pub(crate) enum Judged {
     Lawful { loads: u64, others: u64 },
     Faulty(u64),
+}
+
+impl Judged {
+    // the number to pass up where this is a fault
+    pub(crate) fn fault(self) -> u64
+        ensures { λ r. ⌜ r ≡ fault-in self ⌝ }
+    {
+        match self {
+            Judged::Lawful {
+                loads: _,
+                others: _,
+            } => 0,
+            Judged::Faulty(number) => number,
+        }
+    }
 }
 
 // A code string: A and B, or the refusal with the number of the first bad code.

@@ -99,37 +99,37 @@ module _ (s : Bytes) (well : Judged-well (judged s)) where
       go (given n) f = (stacks f, λ c. rw (e, f))
       go (refused n) f = absurd (well-given {n = n} well (e ∙ rw f))
 
-  pub function-code : {first : ℕ} → head s ≡ Head.Function first
+  pub function-code : {first : ℕ} → head s ≡ some (Head.Function first)
       → Stacks (elms-from s first) 0 × ((c : Setting) → judged-run c (judged s) ≡ read-run c (elms-from s first) [])
-  function-code {first} h = function-judged (elms-from s first) (judged-head s well ∙ ap (λ (x : Head). judging (read-by s x)) h)
+  function-code {first} h = function-judged (elms-from s first) (judged-head s well ∙ ap (λ (x : Option Head). judging (read-by s x)) h)
 
-  pub bad-code : head s ≡ Head.Bad → ⊥
+  pub bad-code : head s ≡ none → ⊥
   unfolding judging
-  bad-code h = well-given well (judged-head s well ∙ ap (λ (x : Head). judging (read-by s x)) h)
+  bad-code h = well-given well (judged-head s well ∙ ap (λ (x : Option Head). judging (read-by s x)) h)
 
   -- any other: its run is one step
-  pub single-code : {q : Converted} → head s ≡ Head.Single q
+  pub single-code : {q : Converted} → head s ≡ some (Head.Single q)
       → (c : Setting) → judged-run c (judged s) ≡ converting (length (c .previous)) (limited entry-most (conversion-gives (conversion-of q) (c .previous)))
   unfolding judging lawful judged-run
   single-code {q} h c = rw (judged-head s well, h) (single-run c (conversion-of q))
 
 -- and its numbers are within what the grammar keeps them
-whole-within : {q : Converted} (n : ℕ) {o : Option (Converted × ℕ)} → Reads Conversion-within o → whole n o ≡ Head.Single q → Conversion-within q
+whole-within : {q : Converted} (n : ℕ) {o : Option (Converted × ℕ)} → Reads Conversion-within o → whole n o ≡ some (Head.Single q) → Conversion-within q
 whole-within {q} n {o} p e = go o p e
   where
-    go : (o : Option (Converted × ℕ)) → Reads Conversion-within o → whole n o ≡ Head.Single q → Conversion-within q
+    go : (o : Option (Converted × ℕ)) → Reads Conversion-within o → whole n o ≡ some (Head.Single q) → Conversion-within q
     go none p e = let z : _≡_ {A = ℕ} 0 1 = cc in absurd (omega arith)
     go (some r) p e = pick (eqb (r .1) n) e
       where
-        pick : (t : Bool) → (if t then Head.Single (r .0) else Head.Bad) ≡ Head.Single q → Conversion-within q
+        pick : (t : Bool) → (if t then some (Head.Single (r .0)) else none) ≡ some (Head.Single q) → Conversion-within q
         pick true e = let same : r .0 ≡ q = cc in rw same at (read-has p refl)
         pick false e = let z : _≡_ {A = ℕ} 0 1 = cc in absurd (omega arith)
 
-pub single-within : {q : Converted} (s : Bytes) → head s ≡ Head.Single q → Conversion-within q
+pub single-within : {q : Converted} (s : Bytes) → head s ≡ some (Head.Single q) → Conversion-within q
 unfolding head
 single-within {q} s h = go (eqb 70 (byte-at s 0)) (eqb 59 (byte-at s 1)) h
   where
-    go : (t u : Bool) → (if t then (if u then Head.Function 2 else Head.Bad) else whole (length s) (place.conversion s 0)) ≡ Head.Single q → Conversion-within q
+    go : (t u : Bool) → (if t then (if u then some (Head.Function 2) else none) else whole (length s) (place.conversion s 0)) ≡ some (Head.Single q) → Conversion-within q
     go true true e = let z : _≡_ {A = ℕ} 0 1 = cc in absurd (omega arith)
     go true false e = let z : _≡_ {A = ℕ} 0 1 = cc in absurd (omega arith)
     go false u e = whole-within (length s) (conversion-reads s 0) e

@@ -2,6 +2,7 @@
 use mathlib.Core.Path.{_≡_, refl, ap, _∙_}
 use mathlib.Core.Bool.{Bool, true, false}
 use mathlib.Core.List.{[], _∷_}
+use mathlib.Core.Option.{Option, none, some}
 use Prim.Native.Nat.{ℕ, _-_}
 use native.Mathlib.Omega.{arith}
 use lib.ListN.{length}
@@ -28,23 +29,23 @@ use Rattle.machine.proofs.CodeRuns.{single-code, single-within}
 use Rattle.machine.proofs.Parts.{accepted-parts, first-run}
 
 -- the plan, way by way
-module _ (string : Bytes) {h : Head} (e : h ≡ head string) where
-  pub plan-function : {first : ℕ} → h ≡ Head.Function first → Plan.Codes ≡ plan-of string
+module _ (string : Bytes) where
+  pub plan-function : {first : ℕ} → head string ≡ some (Head.Function first) → Plan.Codes ≡ plan-of string
   unfolding plan-of planned
-  plan-function f = rw (← e, f)
+  plan-function f = rw f
 
-  pub plan-bad : h ≡ Head.Bad → Plan.Codes ≡ plan-of string
+  pub plan-bad : head string ≡ none → Plan.Codes ≡ plan-of string
   unfolding plan-of planned
-  plan-bad f = rw (← e, f)
+  plan-bad f = rw f
 
-  module _ {c : Conversion} (f : h ≡ Head.Single c) {end : ℕ} (g : end ≡ code-end string 0) where
+  module _ {c : Conversion} (f : head string ≡ some (Head.Single c)) {end : ℕ} (g : end ≡ code-end string 0) where
     pub plan-alone : end ≡ length string → Plan.Single c ≡ plan-of string
     unfolding plan-of planned
-    plan-alone k = rw (← e, f, ← g, eq-eqb end (length string) k)
+    plan-alone k = rw (f, ← g, eq-eqb end (length string) k)
 
     pub plan-parted : (end ≡ length string → ⊥) → Plan.Codes ≡ plan-of string
     unfolding plan-of planned
-    plan-parted k = rw (← e, f, ← g, ne-eqb end (length string) k)
+    plan-parted k = rw (f, ← g, ne-eqb end (length string) k)
 
 -- the answer of a single code is that of the string, with no code after it
 last-run : (item : Bytes) (v s taken : ℕ) (x : Res Bytes)
@@ -55,19 +56,19 @@ last-run item v s taken (given bs) = refl
 
 module _ {c : Conversion} (string : Bytes) (ready : Accepted (judged-all 1 (split 253 string))) (e : Plan.Single c ≡ plan-of string) where
   -- no mark parts it
-  alone : (head string ≡ Head.Single c) × (code-end string 0 ≡ length string)
+  alone : (head string ≡ some (Head.Single c)) × (code-end string 0 ≡ length string)
   unfolding plan-of planned
   alone = go (head string) refl e
     where
-      go : (h : Head) → head string ≡ h → Plan.Single c ≡ planned string h → (head string ≡ Head.Single c) × (code-end string 0 ≡ length string)
-      go (Head.Function first) f g = let z : _≡_ {A = ℕ} 0 1 = cc in absurd (omega arith)
-      go (Head.Single k) f g = pick (eqb (code-end string 0) (length string)) refl g
+      go : (h : Option Head) → head string ≡ h → Plan.Single c ≡ planned string h → (head string ≡ some (Head.Single c)) × (code-end string 0 ≡ length string)
+      go (some (Head.Function first)) f g = let z : _≡_ {A = ℕ} 0 1 = cc in absurd (omega arith)
+      go (some (Head.Single k)) f g = pick (eqb (code-end string 0) (length string)) refl g
         where
           pick : (t : Bool) → eqb (code-end string 0) (length string) ≡ t → Plan.Single c ≡ (if t then Plan.Single k else Plan.Codes)
-              → (head string ≡ Head.Single c) × (code-end string 0 ≡ length string)
-          pick true q g = let same : k ≡ c = cc in (f ∙ ap (λ (x : Conversion). Head.Single x) same, eqb-true _ _ q)
+              → (head string ≡ some (Head.Single c)) × (code-end string 0 ≡ length string)
+          pick true q g = let same : k ≡ c = cc in (f ∙ ap (λ (x : Conversion). some (Head.Single x)) same, eqb-true _ _ q)
           pick false q g = let z : _≡_ {A = ℕ} 0 1 = cc in absurd (omega arith)
-      go Head.Bad f g = let z : _≡_ {A = ℕ} 0 1 = cc in absurd (omega arith)
+      go none f g = let z : _≡_ {A = ℕ} 0 1 = cc in absurd (omega arith)
 
   one-code : judged-all 1 (split 253 string) ≡ in-turn 1 (judged string) (accepted [])
   unfolding judged-all

@@ -20,7 +20,6 @@ use Rattle.machine.proofs.slots.exchange.Reads as exchange
 use Rattle.machine.proofs.giving.give.Reads as give
 use Rattle.machine.proofs.loading.operand.Reads as operand
 use Rattle.machine.proofs.stepping.step.Reads as step
-use Rattle.machine.proofs.running.run_code.Reads as run-code
 use Rattle.machine.proofs.running.plan.Reads as plan
 use Rattle.machine.proofs.running.run_codes.Reads as run-codes
 
@@ -86,10 +85,6 @@ same-run {o} p q =
       answers = p .answers ∙ sym (q .answers);
       element = rw (p .answers) (same-element (o .answer) (o .steps) _ _ (p .element) (q .element));
     }
-
-run-code-settled : (κs : Lfts 4) → (a : _) (r r′ : _) (e e′ : _) → run-code.Post κs a r e → run-code.Post κs a r′ e′
-    → Same-run r r′ (e .1 .1 .1 .1 .1 .1 .0 .now) (e′ .1 .1 .1 .1 .1 .1 .0 .now) (e .1 .1 .1 .1 .1 .1 .1 .0 .now) (e′ .1 .1 .1 .1 .1 .1 .1 .0 .now)
-run-code-settled κs a r r′ e e′ p q = same-run p q
 
 plan-settled : (κs : Lfts 1) → (a : _) (r r′ : _) (e e′ : _) → plan.Post κs a r e → plan.Post κs a r′ e′ → r ≡ r′
 plan-settled κs a r r′ e e′ p q = p ∙ sym q

@@ -28,7 +28,7 @@ use Rattle.machine.specs.declared.Step.{Step}
 use Rattle.machine.specs.declared.Ran.{Ran}
 use Rattle.machine.specs.Slots.{slots, element-slot, entry-at, stack-of, Slotted, Lent}
 use Rattle.machine.specs.Bounds.{Elm-within}
-use Rattle.machine.specs.Stepping.{step-of, stack-after, held-after, refusal-in, setting-of, Settles, Elm-settles}
+use Rattle.machine.specs.Stepping.{step-of, stack-after, held-after, step-refusal, setting-of, Settles, Elm-settles}
 use Rattle.machine.specs.Runs.{ran-of, Runs, answered, read-run, Stacks, stacks}
 use Rattle.machine.proofs.Laws.{Put, entry-fits, after-same, after-slotted}
 use Rattle.machine.proofs.Effects.{stack-length}
@@ -58,10 +58,9 @@ runs-answered slotted bs steps fit put =
 pub runs-as : {o q : Outcome} {r : Ran} {scratch : Bytes} {lens : List ℕ} → o ≡ q → Runs q r scratch lens → Runs o r scratch lens
 runs-as e t = rw e t
 
-pub runs-refused : {o : Outcome} {step : Step} {r : Ran} {scratch : Bytes} {lens : List ℕ} {m steps : ℕ} → r ≡ Ran.Stopped (refusal-in step) steps
-    → step ≡ Step.Refused m → Runs o (Ran.Stopped m steps) scratch lens → Runs o r scratch lens
-unfolding refusal-in
-runs-refused e told t = rw (e, told) t
+pub runs-refused : {o : Outcome} {step : Step} {scratch : Bytes} {lens : List ℕ} {k m steps : ℕ} → k ≡ step-refusal step → step ≡ Step.Refused m
+    → Runs o (Ran.Stopped m steps) scratch lens → Runs o (Ran.Stopped k steps) scratch lens
+runs-refused e told t = rw (e ∙ ap step-refusal told) t
 
 -- One step under a budget, with so much of it left.
 module _ (budget steps : ℕ) (x : Res (ℕ × List Bytes)) (k : List Bytes → Run Bytes) (within : steps ≤ budget) where

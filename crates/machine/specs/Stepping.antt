@@ -36,9 +36,9 @@ putting taken (refused n) stack = refused n
 putting taken (given bs) stack = given (1 + taken + length bs, bs ∷ stack)
 
 -- "A number not given here, by any call, is 0"
-unfoldable pub refusal-in : Step → ℕ
-refusal-in (Step.Done cost held) = 0
-refusal-in (Step.Refused n) = n
+abbrev pub step-refusal : Step → ℕ
+step-refusal (Step.Done cost held) = 0
+step-refusal (Step.Refused n) = n
 
 -- what an elm finds in the slots from k on, the top one last: the bytes it takes, and what it gives
 abbrev pub taken-one : Bytes → List ℕ → ℕ → ℕ

@@ -2,18 +2,32 @@
 // The stack stands in the lent scratch; a step answers its cost or its refusal, and nothing is written before its own refusal is known.
 // Every statement is an equality with the run that crates/paper defines.
 pub mod giving;
-pub mod loading;
+mod loading;
 pub mod running;
 mod settling;
 pub mod slots;
-pub mod stepping;
+mod stepping;
 
 use codes::Conversion;
+ghost use mathlib.Core.Path.{_≡_};
+ghost use Rattle.machine.specs.Stepping.{step-refusal};
 
 // One step: its cost and the entries then held, or its refusal.
-pub enum Step {
+pub(crate) enum Step {
     Done { cost: u64, held: usize },
     Refused(u64),
+}
+
+impl Step {
+    // the number to pass up where this is a refusal
+    pub(crate) fn refusal(self) -> u64
+        ensures { λ r. ⌜ r ≡ step-refusal self ⌝ }
+    {
+        match self {
+            Step::Done { cost: _, held: _ } => 0,
+            Step::Refused(number) => number,
+        }
+    }
 }
 
 // A run of several steps: the steps then counted, or the refusal and the steps counted before it.

@@ -24,7 +24,7 @@ fn load<'a>(item: &'a [u8], number: u64, repeat: Repeat, v: u64, s: u64) -> &'a 
 }
 
 // A part of the record or of the code; LPV, which stands in a slot, is empty here.
-pub fn operand<'a>(item: &'a [u8], code: &'a [u8], o: Operand, v: u64, s: u64) -> &'a [u8]
+pub(crate) fn operand<'a>(item: &'a [u8], code: &'a [u8], o: Operand, v: u64, s: u64) -> &'a [u8]
     requires { ⌜ Operand-within (now code) o ⌝ }
     ensures { λ r. ⌜ now r ≡ operand (setting (now (item .entry)) v s []) (operand-of (now (code .entry)) o) ⌝ }
 {

@@ -9,6 +9,7 @@ use crate::stepping;
 use codes::Conversion;
 use grammar::Head;
 use grammar::ReadElm;
+use grammar::ReadHead;
 use paper::Given;
 use paper::refusal;
 ghost use mathlib.Core.Path.{_≡_};
@@ -25,19 +26,9 @@ ghost use Rattle.grammar.specs.Checking.{elms-from};
 ghost use Rattle.codes.specs.Meaning.{conversion-of};
 ghost use Rattle.machine.specs.Bounds.{Conversion-within};
 ghost use Rattle.machine.specs.Slots.{element-slot, entry-at, Slotted, Lent};
-ghost use Rattle.machine.specs.Stepping.{taken-one, converted-on, handed, setting-of, refusal-in};
+ghost use Rattle.machine.specs.Stepping.{taken-one, converted-on, handed, setting-of};
 ghost use Rattle.machine.specs.Plans.{plan-of};
 ghost use Rattle.machine.specs.Runs.{Runs, answered, read-run, Stacks, converting, judged-run, Judged-well, checked-run, Accepted};
-
-// The refusal of a step, passed up with the steps counted before it.
-fn stopped(step: Step, steps: u64) -> Ran
-    ensures { λ r. ⌜ r ≡ Ran.Stopped (refusal-in step) steps ⌝ }
-{
-    match step {
-        Step::Done { cost: _, held: _ } => Ran::Stopped { number: 0, steps },
-        Step::Refused(number) => Ran::Stopped { number, steps },
-    }
-}
 
 // "An F code's answer is the top entry."
 fn answer(held: usize, steps: u64, scratch: &mut [u8], lens: &mut [usize]) -> Ran
@@ -68,16 +59,20 @@ fn function<'a>(
     let mut held = 0;
     let mut steps = from;
     loop {
-        let ReadElm::Elm { elm, next } = grammar::elms::elm(code, at) else {
+        let read = grammar::elms::elm(code, at);
+        let ReadElm::Elm { elm, next } = read else {
             return Ran::Stopped {
-                number: refusal::NOT_IN_GRAMMAR,
+                number: read.refusal(),
                 steps,
             };
         };
         let left = budget - steps;
         let taken = stepping::step(item, code, elm, v, s, held, left, scratch, lens, work);
         let Step::Done { cost, held: after } = taken else {
-            return stopped(taken, steps);
+            return Ran::Stopped {
+                number: taken.refusal(),
+                steps,
+            };
         };
         held = after;
         steps += cost;
@@ -156,7 +151,7 @@ fn single(
 }
 
 // One code, without the marks around it, on the element in its slot.
-pub fn run_code<'a>(
+fn run_code<'a>(
     item: &'a [u8],
     code: &'a [u8],
     v: u64,
@@ -170,7 +165,14 @@ pub fn run_code<'a>(
     requires { ⌜ Lent (now item) (now scratch) (now lens) (now work) × (steps ≤ budget) × Judged-well (judged (now code)) ⌝ }
     ensures { λ r. ⌜ Runs (within-budget budget steps (judged-run (setting-of (now (item .entry)) v s (now (scratch .entry)) (now (lens .entry))) (judged (now (code .entry))))) r (now (scratch .exit)) (now (lens .exit)) ⌝ }
 {
-    match grammar::checking::head(code) {
+    let read = grammar::checking::head(code);
+    let ReadHead::Head(head) = read else {
+        return Ran::Stopped {
+            number: read.refusal(),
+            steps,
+        };
+    };
+    match head {
         Head::Function { first } => function(
             item,
             code,
@@ -184,10 +186,6 @@ pub fn run_code<'a>(
             work,
         ),
         Head::Single(conversion) => single(conversion, budget, steps, scratch, lens, work),
-        Head::Bad => Ran::Stopped {
-            number: refusal::NOT_IN_GRAMMAR,
-            steps,
-        },
     }
 }
 
@@ -195,16 +193,16 @@ pub fn run_code<'a>(
 pub fn plan(string: &[u8]) -> Plan
     ensures { λ r. ⌜ r ≡ plan-of (now (string .entry)) ⌝ }
 {
-    match grammar::checking::head(string) {
-        Head::Function { first: _ } => Plan::Codes,
-        Head::Single(conversion) => {
-            if grammar::checking::code_end(string, 0) == string.len() {
-                Plan::Single(conversion)
-            } else {
-                Plan::Codes
-            }
-        }
-        Head::Bad => Plan::Codes,
+    let ReadHead::Head(head) = grammar::checking::head(string) else {
+        return Plan::Codes;
+    };
+    let Head::Single(conversion) = head else {
+        return Plan::Codes;
+    };
+    if grammar::checking::code_end(string, 0) == string.len() {
+        Plan::Single(conversion)
+    } else {
+        Plan::Codes
     }
 }
 

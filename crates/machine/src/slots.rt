@@ -9,7 +9,7 @@ ghost use Rattle.machine.specs.Slots.{slots, entry-at, put-in, put-lengt
 // Slots: the stack's entries, the element on its way through the codes, and one to spare.
 pub const ELEMENT: usize = Limit::STACK.most;
 
-pub const SPARE: usize = ELEMENT + 1;
+const SPARE: usize = ELEMENT + 1;
 
 pub const SLOTS: usize = SPARE + 1;
 
@@ -34,7 +34,7 @@ pub fn put(src: &[u8], scratch: &mut [u8], lens: &mut [usize], k: usize)
 }
 
 // What one slot holds into another.
-pub fn copy(scratch: &mut [u8], lens: &mut [usize], from: usize, to: usize)
+pub(crate) fn copy(scratch: &mut [u8], lens: &mut [usize], from: usize, to: usize)
     requires { ⌜ Slotted (now scratch) (now lens) × (from < slots) × (to < slots) ⌝ }
     ensures { λ _. ⌜ now (scratch .exit) ≡ put-in (now (scratch .entry)) to (entry-at (now (scratch .entry)) (now (lens .entry)) from) ⌝ }
     ensures { λ _. ⌜ now (lens .exit) ≡ put-length (now (lens .entry)) to (entry-at (now (scratch .entry)) (now (lens .entry)) from) ⌝ }
@@ -50,7 +50,7 @@ pub fn copy(scratch: &mut [u8], lens: &mut [usize], from: usize, to: usize)
 }
 
 // What slots k and k + 1 hold, the one into the other, by way of the spare slot.
-pub fn exchange(scratch: &mut [u8], lens: &mut [usize], k: usize)
+pub(crate) fn exchange(scratch: &mut [u8], lens: &mut [usize], k: usize)
     requires { ⌜ Slotted (now scratch) (now lens) × (k + 1 < stack-most) ⌝ }
     ensures { λ _. ⌜ now (scratch .exit) ≡ exchanged (now (scratch .entry)) (now (lens .entry)) k ⌝ }
     ensures { λ _. ⌜ now (lens .exit) ≡ exchanged-lengths (now (scratch .entry)) (now (lens .entry)) k ⌝ }

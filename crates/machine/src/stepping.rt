@@ -109,7 +109,7 @@ fn duplicate(left: u64, scratch: &mut [u8], lens: &mut [usize], k: usize) -> Ste
 }
 
 // One elm on the first `held` slots.
-pub fn step<'a>(
+pub(crate) fn step<'a>(
     item: &'a [u8],
     code: &'a [u8],
     elm: Elm,

@@ -46,7 +46,6 @@ returns c =
     sym (marks-stray _ (l .at) (l .inv .0) (c .before .before .first-within .ensures) (l .loads) (l .others) (l .number) (sym (c .before .stray .ensures) ∙ c .if1 .taken)) ∙ l .inv .3
 
 returns-2 : tie.Need-returns-2 Inv-loop μ-loop
-unfolding fault-in
 returns-2 c =
     let l = c .before .before .before .before .before .before .before .before .loop in
     ap (λ n. Verdict.Refused n (l .number)) (c .fault .ensures ∙ ap fault-in (c .before .enum-told .given .1))

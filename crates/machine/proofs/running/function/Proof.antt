@@ -4,7 +4,7 @@ use mathlib.Core.Path.{_≡_, refl, _∙_}
 use Prim.Native.Nat.{_-_}
 use native.Mathlib.Omega.{arith}
 use lib.ListN.{length}
-use Rattle.grammar.proofs.Taken.{elm-is}
+use Rattle.grammar.proofs.Answering.{elms, read-is}
 use Rattle.machine.proofs.Turns.{
   Turn,
   runs-as,
@@ -38,17 +38,8 @@ loop-holds c =
     let start = c .before .before .before .before .before in
     (turn-first _ _ _ _ _ _ _ _ _ (start .pre .0) (start .pre .1) (start .pre .2) (start .pre .3), refl, refl, refl)
 
-same-length : tie.Need-same-length Inv-loop μ-loop
-same-length c = search needs
-
-same-length-2 : tie.Need-same-length-2 Inv-loop μ-loop
-same-length-2 c = search needs
-
-same-length-3 : tie.Need-same-length-3 Inv-loop μ-loop
-same-length-3 c = search needs
-
 returns : tie.Need-returns Inv-loop μ-loop
-returns c = absurd (turn-not _ _ _ _ _ _ _ _ _ (c .before .before .before .loop .inv .0) (elm-is (c .before .before .elm .ensures) (c .enum-told .given .1)))
+returns c = absurd (turn-not _ _ _ _ _ _ _ _ _ (c .before .before .before .before .loop .inv .0) (read-is elms (c .before .before .before .elm .ensures) (c .before .enum-told .given .1)))
 
 sub-left : tie.Need-sub-left Inv-loop μ-loop
 sub-left c = c .before .before .before .before .loop .inv .0 .counted
@@ -57,25 +48,16 @@ step-requires : tie.Need-step-requires Inv-loop μ-loop
 step-requires c κs =
     let read = c .before .before .before .before .before .before in
     let turn = read .before .loop .inv .0 in
-    let elm = elm-is (read .elm .ensures) (c .before .before .before .before .elm2 .given .1) in
+    let elm = read-is elms (read .elm .ensures) (c .before .before .before .before .read .given .1) in
     (turn .lent, turn-elm _ _ _ _ _ _ _ _ _ turn elm, turn .few, turn-room _ _ _ _ _ _ _ _ _ turn elm)
-
-same-length-4 : tie.Need-same-length-4 Inv-loop μ-loop
-same-length-4 c = search needs
-
-same-length-5 : tie.Need-same-length-5 Inv-loop μ-loop
-same-length-5 c = search needs
-
-same-length-6 : tie.Need-same-length-6 Inv-loop μ-loop
-same-length-6 c = search needs
 
 returns-2 : tie.Need-returns-2 Inv-loop μ-loop
 returns-2 c =
     let stepped = c .before .before .before .before .before .before .before .before .before in
     let read = stepped .before .before .before .before .before .before .before in
     let told = c .before .enum-told2 .given .1 in
-    runs-refused (c .stopped .ensures) told
-    (turn-stops _ _ _ _ _ _ _ _ _ (read .before .loop .inv .0) (elm-is (read .elm .ensures) (stepped .before .before .before .before .before .elm2 .given .1)) (stepped .step .ensures) told)
+    runs-refused (c .refusal2 .ensures) told
+    (turn-stops _ _ _ _ _ _ _ _ _ (read .before .loop .inv .0) (read-is elms (read .elm .ensures) (stepped .before .before .before .before .before .read .given .1)) (stepped .step .ensures) told)
 
 add-steps : tie.Need-add-steps Inv-loop μ-loop
 add-steps c =
@@ -83,7 +65,7 @@ add-steps c =
     let read = stepped .before .before .before .before .before .before .before in
     omega (
       arith,
-      turn-counted _ _ _ _ _ _ _ _ _ (read .before .loop .inv .0) (elm-is (read .elm .ensures) (stepped .before .before .before .before .before .elm2 .given .1)) (stepped .step .ensures) (c .before .taken .given .1),
+      turn-counted _ _ _ _ _ _ _ _ _ (read .before .loop .inv .0) (read-is elms (read .elm .ensures) (stepped .before .before .before .before .before .read .given .1)) (stepped .step .ensures) (c .before .taken .given .1),
       c .before .before .before .before .before .before .before .before .before .before .before .before .before .before .before .before .before .before .before .before .before .before .before .fits,
     )
 
@@ -92,42 +74,33 @@ answer-requires c κs =
     let stepped = c .before .before .before .before .before .before .before .before .before .before .before .before in
     let read = stepped .before .before .before .before .before .before .before in
     let held =
-    turn-held _ _ _ _ _ _ _ _ _ (read .before .loop .inv .0) (elm-is (read .elm .ensures) (stepped .before .before .before .before .before .elm2 .given .1)) (stepped .step .ensures) (c .before .before .before .before .taken .given .1) in
+    turn-held _ _ _ _ _ _ _ _ _ (read .before .loop .inv .0) (read-is elms (read .elm .ensures) (stepped .before .before .before .before .before .read .given .1)) (stepped .step .ensures) (c .before .before .before .before .taken .given .1) in
     (stepped .step .ensures .slotted, held .0, held .1)
-
-same-length-7 : tie.Need-same-length-7 Inv-loop μ-loop
-same-length-7 c = search needs
-
-same-length-8 : tie.Need-same-length-8 Inv-loop μ-loop
-same-length-8 c = search needs
-
-same-length-9 : tie.Need-same-length-9 Inv-loop μ-loop
-same-length-9 c = search needs
 
 returns-3 : tie.Need-returns-3 Inv-loop μ-loop
 returns-3 c =
     let stepped = c .before .before .before .before .before .before .before .before .before .before .before .before .before .before .before .before .before in
     let read = stepped .before .before .before .before .before .before .before in
     runs-as
-    (turn-last _ _ _ _ _ _ _ _ _ (read .before .loop .inv .0) (elm-is (read .elm .ensures) (stepped .before .before .before .before .before .elm2 .given .1)) (stepped .step .ensures) (c .before .before .before .before .before .before .before .before .before .taken .given .1) (c .before .before .before .before .before .before .before .if1 .taken))
+    (turn-last _ _ _ _ _ _ _ _ _ (read .before .loop .inv .0) (read-is elms (read .elm .ensures) (stepped .before .before .before .before .before .read .given .1)) (stepped .step .ensures) (c .before .before .before .before .before .before .before .before .before .taken .given .1) (c .before .before .before .before .before .before .before .if1 .taken))
     (c .before .before .before .before .answer .ensures)
 
 add-at : tie.Need-add-at Inv-loop μ-loop
 add-at c =
     let read = c .before .before .before .before .before .before .before .before .before .before .before .before .before .before .before .before .before in
-    omega (arith, turn-place _ _ _ _ _ _ _ _ _ (read .before .loop .inv .0) (elm-is (read .elm .ensures) (c .before .before .before .before .before .before .before .before .before .before .before .before .before .before .before .elm2 .given .1)), c .before .before .before .before .before .before .before .before .before .before .before .before .before .before .before .before .before .before .before .before .before .before .before .before .good)
+    omega (arith, turn-place _ _ _ _ _ _ _ _ _ (read .before .loop .inv .0) (read-is elms (read .elm .ensures) (c .before .before .before .before .before .before .before .before .before .before .before .before .before .before .before .read .given .1)), c .before .before .before .before .before .before .before .before .before .before .before .before .before .before .before .before .before .before .before .before .before .before .before .before .good)
 
 loop-less : tie.Need-loop-less Inv-loop μ-loop
 loop-less c =
     let read = c .before .before .before .before .before .before .before .before .before .before .before .before .before .before .before .before .before in
-    omega (arith, turn-place _ _ _ _ _ _ _ _ _ (read .before .loop .inv .0) (elm-is (read .elm .ensures) (c .before .before .before .before .before .before .before .before .before .before .before .before .before .before .before .elm2 .given .1)))
+    omega (arith, turn-place _ _ _ _ _ _ _ _ _ (read .before .loop .inv .0) (read-is elms (read .elm .ensures) (c .before .before .before .before .before .before .before .before .before .before .before .before .before .before .before .read .given .1)))
 
 loop-again : tie.Need-loop-again Inv-loop μ-loop
 loop-again c =
     let stepped = c .before .before .before .before .before .before .before .before .before .before in
     let read = stepped .before .before .before .before .before .before .before in
     let now-there = read .before .loop .inv in (
-      turn-more _ _ _ _ _ _ _ _ _ (now-there .0) (elm-is (read .elm .ensures) (stepped .before .before .before .before .before .elm2 .given .1)) (stepped .step .ensures) (c .before .before .taken .given .1) (stepped .step .kept .1 .1 .1 .1 .1 .1 .1 .1 .1 .0) (c .if1 .left),
+      turn-more _ _ _ _ _ _ _ _ _ (now-there .0) (read-is elms (read .elm .ensures) (stepped .before .before .before .before .before .read .given .1)) (stepped .step .ensures) (c .before .before .taken .given .1) (stepped .step .kept .1 .1 .1 .1 .1 .1 .1 .1 .1 .0) (c .if1 .left),
       stepped .step .kept .1 .1 .1 .1 .1 .1 .1 .0 ∙ now-there .1,
       stepped .step .kept .1 .1 .1 .1 .1 .1 .1 .1 .0 ∙ now-there .2,
       stepped .step .kept .1 .1 .1 .1 .1 .1 .1 .1 .1 .0 ∙ now-there .3,
@@ -143,24 +116,25 @@ function-spec =
     (λ c κs. search needs)
     (λ c. search needs)
     (λ c. search needs)
-    same-length
-    same-length-2
-    same-length-3
+    (λ c κs. search needs)
+    (λ c. search needs)
+    (λ c. search needs)
+    (λ c. search needs)
     returns
     sub-left
     step-requires
     (λ c. search needs)
     (λ c. search needs)
     (λ c κs. search needs)
-    same-length-4
-    same-length-5
-    same-length-6
+    (λ c. search needs)
+    (λ c. search needs)
+    (λ c. search needs)
     returns-2
     add-steps
     answer-requires
-    same-length-7
-    same-length-8
-    same-length-9
+    (λ c. search needs)
+    (λ c. search needs)
+    (λ c. search needs)
     returns-3
     add-at
     loop-less

@@ -1,11 +1,13 @@
 -- `machine::running::run_code` meets its contract: the elms of an F code, or one step on the element.
 use borrow.Author.Needs.{needs}
-use mathlib.Core.Path.{ap, sym, _∙_}
+use mathlib.Core.Path.{ap, _∙_}
+use mathlib.Core.Option.{some}
 use native.Mathlib.Omega.{arith}
 use denote.Ref.{now}
 use Rattle.paper.specs.Bytes.{Bytes}
 use Rattle.paper.specs.Steps.{Run}
 use Rattle.paper.specs.Converting.{within-budget}
+use Rattle.grammar.proofs.Answering.{heads, read-is}
 use Rattle.grammar.proofs.Judging.{head-first}
 use Rattle.machine.specs.Stepping.{setting-of}
 use Rattle.machine.proofs.Turns.{runs-as}
@@ -13,48 +15,48 @@ use Rattle.machine.proofs.CodeRuns.{function-code, single-code, single-
 use Rattle.machine.proofs.running.run_code.Statement.{statement}
 use Rattle.machine.proofs.running.run_code.Tie as tie
 
+returns : tie.Need-returns
+returns c =
+    let start = c .before .before .before .before .before .before .before .before .before in
+    absurd (bad-code (now (start .args .code)) (start .pre .2) (read-is heads (c .before .before .before .head .ensures) (c .before .enum-told .given .1)))
+
 function-requires : tie.Need-function-requires
 function-requires c κs =
-    let headed = c .before .before .before .before .before .before in
+    let headed = c .before .before .before .before .before .before .before .before .before in
     let start = headed .before .before .before .before .before .before in
     let code = now (start .args .code) in
-    let is = sym (headed .head .ensures) ∙ c .before .before .before .before .first .given .1 in
+    let is = read-is heads (headed .head .ensures) (c .before .before .before .before .before .before .before .read .given .1) ∙ ap some (c .before .before .before .before .head2 .given .1) in
     (start .pre .0, omega (arith, head-first code _ is), start .pre .1, function-code code (start .pre .2) is .0)
 
 single-requires : tie.Need-single-requires
 single-requires c κs =
-    let headed = c .before .before .before .before .before .before in
+    let headed = c .before .before .before .before .before .before .before .before .before in
     let start = headed .before .before .before .before .before .before in (
       start .pre .0 .slotted,
       start .pre .0 .work-fits,
       start .pre .1,
-      single-within (now (start .args .code)) (sym (headed .head .ensures) ∙ c .before .before .before .before .conversion .given .1),
+      single-within (now (start .args .code)) (read-is heads (headed .head .ensures) (c .before .before .before .before .before .before .before .read .given .1) ∙ ap some (c .before .before .before .before .head3 .given .1)),
     )
-
-returns : tie.Need-returns
-returns c =
-    let headed = c .before .before .before .before .before .before .before .before .before .before .before .before .before in
-    let start = headed .before .before .before .before .before .before in
-    let a = start .args in
-    runs-as
-    (ap (λ (r : Run Bytes). within-budget (a .budget) (a .steps) r)
-    (function-code (now (a .code)) (start .pre .2) (sym (headed .head .ensures) ∙ c .before .before .before .before .before .before .before .before .before .before .before .first .given .1) .1 (setting-of (now (a .item)) (a .v) (a .s) (now (a .scratch)) (now (a .lens)))))
-    (c .before .before .before .before .before .before .function .ensures)
 
 returns-2 : tie.Need-returns-2
 returns-2 c =
-    let headed = c .before .before .before .before .before .before .before .before .before .before .before .before .before in
+    let headed = c .before .before .before .before .before .before .before .before .before .before .before .before .before .before .before .before in
     let start = headed .before .before .before .before .before .before in
     let a = start .args in
     runs-as
     (ap (λ (r : Run Bytes). within-budget (a .budget) (a .steps) r)
-    (single-code (now (a .code)) (start .pre .2) (sym (headed .head .ensures) ∙ c .before .before .before .before .before .before .before .before .before .before .before .conversion .given .1) (setting-of (now (a .item)) (a .v) (a .s) (now (a .scratch)) (now (a .lens)))))
-    (c .before .before .before .before .before .before .single .ensures)
+    (function-code (now (a .code)) (start .pre .2) (read-is heads (headed .head .ensures) (c .before .before .before .before .before .before .before .before .before .before .before .before .before .before .read .given .1) ∙ ap some (c .before .before .before .before .before .before .before .before .before .before .before .head2 .given .1)) .1 (setting-of (now (a .item)) (a .v) (a .s) (now (a .scratch)) (now (a .lens)))))
+    (c .before .before .before .before .before .before .function .ensures)
 
 returns-3 : tie.Need-returns-3
 returns-3 c =
-    let start = c .before .before .before .before .before .before .before .before in
-    absurd (bad-code (now (start .args .code)) (start .pre .2) (sym (c .before .before .head .ensures) ∙ c .enum-told .given .1))
+    let headed = c .before .before .before .before .before .before .before .before .before .before .before .before .before .before .before .before in
+    let start = headed .before .before .before .before .before .before in
+    let a = start .args in
+    runs-as
+    (ap (λ (r : Run Bytes). within-budget (a .budget) (a .steps) r)
+    (single-code (now (a .code)) (start .pre .2) (read-is heads (headed .head .ensures) (c .before .before .before .before .before .before .before .before .before .before .before .before .before .before .read .given .1) ∙ ap some (c .before .before .before .before .before .before .before .before .before .before .before .head3 .given .1)) (setting-of (now (a .item)) (a .v) (a .s) (now (a .scratch)) (now (a .lens)))))
+    (c .before .before .before .before .before .before .single .ensures)
 
 pub run-code-spec : {M : Type 1} → statement M
 run-code-spec =
@@ -62,16 +64,18 @@ run-code-spec =
     (tie.spec
     (λ c κs. search needs)
     (λ c. search needs)
+    (λ c. search needs)
+    (λ c κs. search needs)
+    returns
+    (λ c. search needs)
     function-requires
     (λ c. search needs)
     single-requires
     (λ c. search needs)
     (λ c. search needs)
     (λ c. search needs)
-    (λ c. search needs)
-    returns
-    (λ c. search needs)
-    (λ c. search needs)
-    (λ c. search needs)
     returns-2
+    (λ c. search needs)
+    (λ c. search needs)
+    (λ c. search needs)
     returns-3)

@@ -37,28 +37,10 @@ run-code-requires c κs =
     let part = c .before .before .before .before .before .loop .inv .0 in
     (part .lent, part .counted, part-well _ _ _ _ _ _ _ _ part (c .before .before .before .before .code-end .ensures))
 
-same-length : tie.Need-same-length Inv-loop μ-loop
-same-length c = search needs
-
-same-length-2 : tie.Need-same-length-2 Inv-loop μ-loop
-same-length-2 c = search needs
-
-same-length-3 : tie.Need-same-length-3 Inv-loop μ-loop
-same-length-3 c = search needs
-
 returns : tie.Need-returns Inv-loop μ-loop
 returns c =
     let ran = c .before .before .before .before .before .before .before .before in
     part-stops _ _ _ _ _ _ _ _ (ran .before .before .before .before .before .before .loop .inv .0) (ran .before .before .before .before .before .code-end .ensures) (ran .run-code .ensures) (c .enum-told .given .1)
-
-same-length-4 : tie.Need-same-length-4 Inv-loop μ-loop
-same-length-4 c = search needs
-
-same-length-5 : tie.Need-same-length-5 Inv-loop μ-loop
-same-length-5 c = search needs
-
-same-length-6 : tie.Need-same-length-6 Inv-loop μ-loop
-same-length-6 c = search needs
 
 returns-2 : tie.Need-returns-2 Inv-loop μ-loop
 returns-2 c =
@@ -99,13 +81,13 @@ run-parts-spec =
     run-code-requires
     (λ c. search needs)
     (λ c. search needs)
-    same-length
-    same-length-2
-    same-length-3
+    (λ c. search needs)
+    (λ c. search needs)
+    (λ c. search needs)
     returns
-    same-length-4
-    same-length-5
-    same-length-6
+    (λ c. search needs)
+    (λ c. search needs)
+    (λ c. search needs)
     returns-2
     add-at
     loop-less

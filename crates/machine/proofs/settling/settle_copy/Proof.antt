@@ -9,24 +9,10 @@ use borrow.Author.Needs.{needs}
 use Rattle.machine.proofs.settling.settle_copy.Statement.{statement}
 use Rattle.machine.proofs.settling.settle_copy.Tie as tie
 
--- src/settling.rt:59:16
-add-cost : tie.Need-add-cost
-add-cost c = search needs
-
--- src/settling.rt:59:28
-mul-cost : tie.Need-mul-cost
-mul-cost c = search needs
-
--- src/settling.rt:59:28
-slice-read-cost : tie.Need-slice-read-cost
-slice-read-cost c = search needs
-
--- src/settling.rt:59:16
 add-cost-2 : tie.Need-add-cost-2
 unfolding entry-most
 add-cost-2 c = let start = c .before .before .before in omega (arith, start .pre .0 .fits (start .args .from))
 
--- src/settling.rt:61:9
 returns : tie.Need-returns
 returns c =
     let start = c .before .before .before .before in
@@ -35,23 +21,6 @@ returns c =
     (ap (λ (n : ℕ). 1 + taken + n) (sym (entry-length (start .pre .0) (start .args .from) (start .pre .2))))
     (c .if1 .taken)
 
--- src/settling.rt:63:5
-copy-requires : tie.Need-copy-requires
-copy-requires c κs = search needs
-
--- src/settling.rt:64:30
-add-t9 : tie.Need-add-t9
-add-t9 c = search needs
-
--- src/settling.rt:55:1
-same-length : tie.Need-same-length
-same-length c = search needs
-
--- src/settling.rt:55:1
-same-length-2 : tie.Need-same-length-2
-same-length-2 c = search needs
-
--- src/settling.rt:55:1
 returns-2 : tie.Need-returns-2
 returns-2 c =
     let copy = c .before .before .before .before in
@@ -67,13 +36,13 @@ pub settle-copy-spec : {M : Type 1} → statement M
 settle-copy-spec =
     tie.close
     (tie.spec
-    add-cost
-    mul-cost
-    slice-read-cost
+    (λ c. search needs)
+    (λ c. search needs)
+    (λ c. search needs)
     add-cost-2
     returns
-    copy-requires
-    add-t9
-    same-length
-    same-length-2
+    (λ c κs. search needs)
+    (λ c. search needs)
+    (λ c. search needs)
+    (λ c. search needs)
     returns-2)

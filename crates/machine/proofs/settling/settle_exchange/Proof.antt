@@ -9,42 +9,18 @@ use borrow.Author.Needs.{needs}
 use Rattle.machine.proofs.settling.settle_exchange.Statement.{statement}
 use Rattle.machine.proofs.settling.settle_exchange.Tie as tie
 
--- src/settling.rt:72:16
-mul-both : tie.Need-mul-both
-mul-both c = search needs
-
--- src/settling.rt:72:16
-slice-read-both : tie.Need-slice-read-both
-slice-read-both c = search needs
-
--- src/settling.rt:72:38
-add-both : tie.Need-add-both
-add-both c = search needs
-
--- src/settling.rt:72:33
-mul-both-2 : tie.Need-mul-both-2
-mul-both-2 c = search needs
-
--- src/settling.rt:72:33
-slice-read-both-2 : tie.Need-slice-read-both-2
-slice-read-both-2 c = search needs
-
--- src/settling.rt:72:16
 add-both-2 : tie.Need-add-both-2
 unfolding entry-most
 add-both-2 c = let start = c .before .before .before .before in omega (arith, start .pre .0 .fits (start .args .k), start .pre .0 .fits (start .args .k + 1))
 
--- src/settling.rt:73:16
 add-cost : tie.Need-add-cost
 unfolding entry-most
 add-cost c = let start = c .before .before .before .before in omega (arith, start .pre .0 .fits (start .args .k), start .pre .0 .fits (start .args .k + 1))
 
--- src/settling.rt:73:16
 add-cost-2 : tie.Need-add-cost-2
 unfolding entry-most
 add-cost-2 c = let start = c .before .before .before .before in omega (arith, start .pre .0 .fits (start .args .k), start .pre .0 .fits (start .args .k + 1))
 
--- src/settling.rt:75:9
 returns : tie.Need-returns
 returns c =
     let start = c .before .before .before .before .before in
@@ -54,23 +30,6 @@ returns c =
     (sym (entry-length (start .pre .0) (k + 1) (omega arith)))
     (c .if1 .taken)
 
--- src/settling.rt:77:5
-exchange-requires : tie.Need-exchange-requires
-exchange-requires c κs = search needs
-
--- src/settling.rt:78:30
-add-t7 : tie.Need-add-t7
-add-t7 c = search needs
-
--- src/settling.rt:68:1
-same-length : tie.Need-same-length
-same-length c = search needs
-
--- src/settling.rt:68:1
-same-length-2 : tie.Need-same-length-2
-same-length-2 c = search needs
-
--- src/settling.rt:68:1
 returns-2 : tie.Need-returns-2
 returns-2 c =
     let exchange = c .before .before .before .before in
@@ -86,17 +45,17 @@ pub settle-exchange-spec : {M : Type 1} → statement M
 settle-exchange-spec =
     tie.close
     (tie.spec
-    mul-both
-    slice-read-both
-    add-both
-    mul-both-2
-    slice-read-both-2
+    (λ c. search needs)
+    (λ c. search needs)
+    (λ c. search needs)
+    (λ c. search needs)
+    (λ c. search needs)
     add-both-2
     add-cost
     add-cost-2
     returns
-    exchange-requires
-    add-t7
-    same-length
-    same-length-2
+    (λ c κs. search needs)
+    (λ c. search needs)
+    (λ c. search needs)
+    (λ c. search needs)
     returns-2)

@@ -7,31 +7,20 @@ use borrow.Author.Needs.{needs}
 use Rattle.machine.proofs.settling.settle_operand.Statement.{statement}
 use Rattle.machine.proofs.settling.settle_operand.Tie as tie
 
--- src/settling.rt:37:9
 returns : tie.Need-returns
 unfolding entry-most
-returns c = let start = c .before .before .before .before in operand-over (start .pre .0) (start .args .left) _ _ _ (c .if1 .taken)
+returns c = let start = c .before .before .before .before .before in operand-over (start .pre .0) (start .args .left) _ _ _ (c .if1 .taken)
 
--- src/settling.rt:39:5
 settle-requires : tie.Need-settle-requires
 unfolding entry-most
-settle-requires c κs = let start = c .before .before .before .before .before .before in (start .pre .0, start .pre .1, omega arith, start .pre .2)
+settle-requires c κs = let start = c .before .before .before .before .before .before .before in (start .pre .0, start .pre .1, omega arith, start .pre .2)
 
--- src/settling.rt:32:1
-same-length : tie.Need-same-length
-same-length c = search needs
-
--- src/settling.rt:32:1
-same-length-2 : tie.Need-same-length-2
-same-length-2 c = search needs
-
--- src/settling.rt:32:1
 returns-2 : tie.Need-returns-2
 unfolding entry-most
 returns-2 c =
     let settle = c .before .before .before .before in
-    puts-as _ _ (limited-within entry-most (now (settle .before .before .before .before .before .before .before .args .bytes)) (omega arith)) (settle .settle .ensures)
+    puts-as _ _ (limited-within entry-most (now (settle .before .before .before .before .before .before .before .before .args .bytes)) (omega arith)) (settle .settle .ensures)
 
 pub settle-operand-spec : {M : Type 1} → statement M
 settle-operand-spec =
-    tie.close (tie.spec returns settle-requires same-length same-length-2 returns-2)
+    tie.close (tie.spec returns settle-requires (λ c. search needs) (λ c. search needs) returns-2)

@@ -11,52 +11,18 @@ use Rattle.machine.proofs.Laws.{slot-ends, slot-within, entry-length}
 use Rattle.machine.proofs.slots.copy.Statement.{statement}
 use Rattle.machine.proofs.slots.copy.Tie as tie
 
--- src/slots.rt:42:17
-mul-count : tie.Need-mul-count
-mul-count c = search needs
-
--- src/slots.rt:42:17
-slice-read-count : tie.Need-slice-read-count
-slice-read-count c = search needs
-
--- src/slots.rt:43:32
-mul-copy-within : tie.Need-mul-copy-within
-mul-copy-within c = search needs
-
--- src/slots.rt:43:53
-mul-copy-within-2 : tie.Need-mul-copy-within-2
-mul-copy-within-2 c = search needs
-
--- src/slots.rt:43:5
 copy-within-requires : tie.Need-copy-within-requires
 unfolding entry-most
 copy-within-requires c κs =
-    let start = c .before .before .before .before in (
+    let start = c .before .before .before .before .before .before in (
       slot-ends (start .pre .0) (start .args .from) (start .pre .1),
       omega (arith, slot-within (start .args .to) (start .pre .2), start .pre .0 .fits (start .args .from), start .pre .0 .long),
     )
 
--- src/slots.rt:44:5
-mul-lens : tie.Need-mul-lens
-mul-lens c = search needs
-
--- src/slots.rt:44:5
-slice-write-lens : tie.Need-slice-write-lens
-slice-write-lens c = search needs
-
--- src/slots.rt:37:1
-same-length : tie.Need-same-length
-same-length c = search needs
-
--- src/slots.rt:37:1
-same-length-2 : tie.Need-same-length-2
-same-length-2 c = search needs
-
--- src/slots.rt:37:1
 returns : tie.Need-returns
 unfolding entry-most entry-at put-in put-length
 returns c =
-    let start = c .before .before .before .before .before .before .before in (
+    let start = c .before .before .before .before .before .before .before .before .before in (
       c .before .before .copy-within .ensures,
       ap (λ (n : ℕ). set (now (start .args .lens)) (start .args .to) n) (sym (entry-length (start .pre .0) (start .args .from) (start .pre .1))),
     )
@@ -65,13 +31,13 @@ pub copy-spec : {M : Type 1} → statement M
 copy-spec =
     tie.close
     (tie.spec
-    mul-count
-    slice-read-count
-    mul-copy-within
-    mul-copy-within-2
+    (λ c. search needs)
+    (λ c. search needs)
+    (λ c. search needs)
+    (λ c. search needs)
     copy-within-requires
-    mul-lens
-    slice-write-lens
-    same-length
-    same-length-2
+    (λ c. search needs)
+    (λ c. search needs)
+    (λ c. search needs)
+    (λ c. search needs)
     returns)

@@ -12,16 +12,16 @@ use Rattle.machine.proofs.slots.entry.Tie as tie
 
 add-to : tie.Need-add-to
 unfolding entry-most
-add-to c = omega (arith, slot-ends (c .before .pre .0) (c .before .args .k) (c .before .pre .1))
+add-to c = omega (arith, slot-ends (c .before .before .pre .0) (c .before .before .args .k) (c .before .before .pre .1))
 
 part-result-end : tie.Need-part-result-end
 unfolding entry-most
-part-result-end c = slot-ends (c .before .pre .0) (c .before .args .k) (c .before .pre .1)
+part-result-end c = slot-ends (c .before .before .pre .0) (c .before .before .args .k) (c .before .before .pre .1)
 
 returns : tie.Need-returns
 unfolding entry-most entry-at
 returns c =
-    let a = c .before .before .args in
+    let a = c .before .before .before .args in
     from-to (now (a .scratch)) (a .k * entry-most) (getD (now (a .lens)) (a .k) 0)
 
 pub entry-spec : {M : Type 1} → statement M
