@@ -8,23 +8,25 @@ use native.Mathlib.Numerals.{add-one}
 use native.Mathlib.Nat.{mul-le-mul}
 use lib.ListN.{length, drop, getD, drop-of-length-le}
 use lib.Seq.{drop-cons}
-use lib.Dec.{eqb}
+use lib.Dec.{eqb, leb}
 use Rattle.paper.specs.Bytes.{Bytes, if_then_else_}
-use Rattle.paper.specs.Sizes.{record-most, value-mark, subvalue-mark, is-inner-mark}
-use Rattle.paper.specs.Refusals.{Res, given, refused, _>>=_, _>>_}
+use Rattle.paper.specs.Sizes.{record-most, scratch-least, value-mark, subvalue-mark, is-inner-mark}
+use Rattle.paper.specs.Refusals.{Res, given, refused, _>>=_, _>>_, refuse_unless_, refusal-of, short-scratch}
 use Rattle.paper.specs.Records.{path, reads}
 use Rattle.paper.specs.Codes.{Code}
-use Rattle.paper.specs.Checking.{Checked, accepted, faulty, check, checked-codes, attribute-loads, other-steps}
-use Rattle.paper.specs.Converting.{Element, elements, lawful-place, ceiling}
+use Rattle.paper.specs.Checking.{Checked, accepted, faulty, check, checked-codes, attribute-loads, other-steps, report}
+use Rattle.paper.specs.Converting.{Element, elements, lawful-place, lawful-code, ready, convert, ceiling}
+use Rattle.paper.proofs.Ceiling.{steps-within-ceiling}
 use Rattle.grammar.specs.Checking.{verdict-of}
 use Rattle.grammar.specs.declared.Verdict.{Verdict}
 use Rattle.grammar.proofs.Walking.{accepted-steps}
 use Rattle.records.specs.Found.{lawful-find}
 use Rattle.convert.specs.Walk.{in-front, walked, inner-marks}
+use Rattle.convert.specs.Gather.{refused-at-once}
 use Rattle.convert.specs.Ceiling.{Figures, ceiling-of, ceiling-told}
 use Rattle.convert.specs.declared.Bound.{Bound}
 use Rattle.convert.proofs.Walking.{elements-walked}
-use Rattle.convert.proofs.Stages.{lawful-numbers, reads-short}
+use Rattle.convert.proofs.Stages.{refused-ready, lawful-numbers, reads-short}
 
 -- one byte more of the bytes passed
 module _ (text : Bytes) (n i : ℕ) (e : inner-marks text ≡ n + inner-marks (drop i text)) where
@@ -117,8 +119,34 @@ module _ (item string : Bytes) (a v s : ℕ) where
 
       elements-counted : length (elements item a v s) ≡ 1 + n
       elements-counted =
-          ap length (elements-walked item a v s (lawful-numbers item a v s lawful .whole)) ∙ walked-length _ _ _ _ ∙ ap (λ (x : ℕ). 1 + x) (sym (counted ∙ ap inner-marks read))
+          ap length (elements-walked item a v s (lawful-numbers item a v s lawful .whole)) ∙ walked-length _ _ _ _
+          ∙ ap (λ (x : ℕ). 1 + x) (sym (counted ∙ ap inner-marks read))
 
       pub capped : {most : ℕ} → most ≡ ceiling loads others (length item) (1 + n) → Bound.Most most ≡ ceiling-told (ceiling-of item string a v s)
       unfolding lawful-find lawful-place ceiling-of ceiling-told checked-codes
       capped h = let (cs, e, f, g) = codes (check string) refl in rw (lawful, e, f, g, elements-counted) (ap Bound.Most h)
+
+-- the ceiling beside the conversion itself
+module _ (item string : Bytes) (a v s budget room scratch : ℕ) where
+  pub steps-capped : (n : ℕ) → ceiling-of item string a v s ≡ given n → convert item string a v s budget room scratch .steps ≤ n
+  unfolding ceiling-of checked-codes report
+  steps-capped n e = omega (arith, go (lawful-place item a v s) (check string) e, steps-within-ceiling item string a v s budget room scratch)
+    where
+      go : (p : Res (Unit {0})) (c : Checked)
+          → (p >> (checked-codes c >>= λ cs. given (ceiling (attribute-loads cs) (other-steps cs) (length item) (length (elements item a v s))))) ≡ given n
+          → ceiling (report c .loads) (report c .others) (length item) (length (elements item a v s)) ≡ n
+      go (given u) (accepted cs) e = cc
+      go (given u) (faulty k l) e = let z : _≡_ {A = ℕ} 0 1 = cc in absurd (omega arith)
+      go (refused k) c e = let z : _≡_ {A = ℕ} 0 1 = cc in absurd (omega arith)
+
+  -- where it is refused, so is the conversion, before its run
+  pub refused-alike : (n : ℕ) → ceiling-of item string a v s ≡ refused n → convert item string a v s budget room scratch ≡ refused-at-once n
+  unfolding ceiling-of ready lawful-code checked-codes
+  refused-alike n e = refused-ready item string a v s budget room scratch n (go (lawful-place item a v s) (check string) e)
+    where
+      go : (p : Res (Unit {0})) (c : Checked)
+          → (p >> (checked-codes c >>= λ cs. given (ceiling (attribute-loads cs) (other-steps cs) (length item) (length (elements item a v s))))) ≡ refused n
+          → (p >> (checked-codes c >>= λ cs. (refuse short-scratch unless leb scratch-least scratch) >> given cs)) ≡ refused n
+      go (given u) (accepted cs) e = let z : _≡_ {A = ℕ} 0 1 = cc in absurd (omega arith)
+      go (given u) (faulty k l) e = ap (λ (x : Res ℕ). refused (refusal-of x)) e
+      go (refused k) c e = ap (λ (x : Res ℕ). refused (refusal-of x)) e

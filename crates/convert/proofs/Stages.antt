@@ -48,7 +48,7 @@ module _ (item string : Bytes) (a v s budget room scratch : ℕ) where
   place-is = refl
 
   -- refused before the run
-  refused-ready : (n : ℕ) → ready item string a v s scratch ≡ refused n → convert item string a v s budget room scratch ≡ refused-at-once n
+  pub refused-ready : (n : ℕ) → ready item string a v s scratch ≡ refused n → convert item string a v s budget room scratch ≡ refused-at-once n
   unfolding convert carried-out
   refused-ready n e = rw e
 

@@ -1,6 +1,7 @@
 // Converting (document 01, "What each code gives" and "Steps"): the elements of an address, the answer, the refusals in order.
 // `convert` takes any record, code string, address, budget and buffers; it is the definition of crates/paper, byte for byte.
 // The elements are walked once from left to right, and each answer goes straight to the lent output.
+// `ceiling` works out beforehand the most steps that a conversion can take.
 use grammar::Verdict;
 use machine::Plan;
 use machine::Ran;
@@ -372,7 +373,7 @@ fn most_steps(m: u64, loads: u64, others: u64, size: u64) -> u64
     m * (loads * (LOAD_MOST + size) + others * OTHER_MOST)
 }
 
-// The ceiling of a conversion, worked out before it. The refusals are those that converting tries before its run, but for the scratch, which no ceiling asks for.
+// The ceiling of a conversion: refused as that is before its run, but for the scratch, which no ceiling asks for.
 pub fn ceiling(item: &[u8], code: &[u8], a: u64, v: u64, s: u64) -> Bound
     ensures { λ r. ⌜ r ≡ ceiling-told (ceiling-of (now (item .entry)) (now (code .entry)) a v s) ⌝ }
 {

@@ -1,2 +1,4 @@
+pub mod Demands
+pub mod Rereading
 pub mod Settled
 pub mod Told
