@@ -1,4 +1,4 @@
-// Numeric form and its value: `form` alone decides what has numeric form, `ranged` alone what is in range.
+// Numeric form and its value: `form` alone decides what has numeric form.
 use crate::Form;
 use crate::MOST;
 use crate::Number;
