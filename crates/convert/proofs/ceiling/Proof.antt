@@ -20,18 +20,18 @@ add-m c =
     omega (
       arith,
       figures _ _ _ _ _ (passed (told-find _ _ _ _) _ (c .before .before .before .before .before .before .before .lawful-find .ensures) (c .before .before .before .before .before .before .if1 .left)) (c .before .before .before .verdict .given .1) (c .before .before .before .before .before .check .ensures .0)
-          (c .before .part .ensures) (c .inner-marks .ensures) .elements,
+          (c .before .part .ensures .0) (c .inner-marks .ensures) .elements,
     )
 
 most-steps-requires : tie.Need-most-steps-requires
 most-steps-requires c κs =
     figures _ _ _ _ _ (passed (told-find _ _ _ _) _ (c .before .before .before .before .before .before .before .lawful-find .ensures) (c .before .before .before .before .before .before .if1 .left)) (c .before .before .before .verdict .given .1) (c .before .before .before .before .before .check .ensures .0)
-    (c .before .part .ensures) (c .inner-marks .ensures)
+    (c .before .part .ensures .0) (c .inner-marks .ensures)
 
 returns-3 : tie.Need-returns-3
 returns-3 c =
     capped _ _ _ _ _ (passed (told-find _ _ _ _) _ (c .before .before .before .before .before .before .before .before .lawful-find .ensures) (c .before .before .before .before .before .before .before .if1 .left)) (c .before .before .before .before .verdict .given .1) (c .before .before .before .before .before .before .check .ensures .0)
-    (c .before .before .part .ensures) (c .before .inner-marks .ensures) (c .most-steps .ensures)
+    (c .before .before .part .ensures .0) (c .before .inner-marks .ensures) (c .most-steps .ensures)
 
 pub ceiling-spec : {M : Type 1} → statement M
 ceiling-spec =

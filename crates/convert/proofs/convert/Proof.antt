@@ -33,24 +33,24 @@ returns-2 c =
 
 returns-3 : tie.Need-returns-3
 returns-3 c =
-    at-once _ _ _ _ _ _ _ (c .before .before .before .before .before .before .before .before .before .before .before .before .before .before .before .before .before .args .out .now) _
-    (scratch-refused _ _ _ _ _ _ _ _ (passed (told-find _ _ _ _) _ (c .before .before .before .before .before .before .before .before .before .before .before .before .lawful-find .ensures) (c .before .before .before .before .before .before .before .before .before .before .before .if1 .left))
-    (accepted-by _ _ refl (sym (c .before .before .before .before .before .before .before .before .enum-told .given .1) ∙ c .before .before .before .before .before .before .before .before .before .before .check .ensures .0)) (scratch-short _ (c .before .before .before .before .before .before .before .if2 .taken)))
+    at-once _ _ _ _ _ _ _ (c .before .before .before .before .before .before .before .before .before .before .before .before .before .before .before .before .before .before .args .out .now) _
+    (scratch-refused _ _ _ _ _ _ _ _ (passed (told-find _ _ _ _) _ (c .before .before .before .before .before .before .before .before .before .before .before .before .before .lawful-find .ensures) (c .before .before .before .before .before .before .before .before .before .before .before .before .if1 .left))
+    (accepted-by _ _ refl (sym (c .before .before .before .before .before .before .before .before .before .enum-told .given .1) ∙ c .before .before .before .before .before .before .before .before .before .before .before .check .ensures .0)) (scratch-short _ (c .before .before .before .before .before .before .before .if2 .taken)))
     (c .before .before .before .before .refuse3 .ensures)
 
 run-requires : tie.Need-run-requires
 run-requires c κs = (
-  passed (told-find _ _ _ _) _ (c .before .before .before .before .before .before .before .lawful-find .ensures) (c .before .before .before .before .before .before .if1 .left),
-  accepted-by _ _ refl (sym (c .before .before .before .enum-told .given .1) ∙ c .before .before .before .before .before .check .ensures .0),
+  passed (told-find _ _ _ _) _ (c .before .before .before .before .before .before .before .before .lawful-find .ensures) (c .before .before .before .before .before .before .before .if1 .left),
+  accepted-by _ _ refl (sym (c .before .before .before .before .enum-told .given .1) ∙ c .before .before .before .before .before .before .check .ensures .0),
   scratch-enough _ (c .before .before .if2 .left),
 )
 
 returns-4 : tie.Need-returns-4
 returns-4 c =
-    let same : length (c .before .before .before .before .before .before .before .before .before .before .before .run .last .1 .1 .1 .1 .1 .1 .1 .0) ≡ length (c .before .before .before .before .before .before .before .before .before .before .before .before .before .before .before .before .before .before .before .before .before .before .before .before .args .scratch .now) = search needs in
+    let same : length (c .before .before .before .before .before .before .before .before .before .before .before .run .last .1 .1 .1 .1 .1 .1 .1 .0) ≡ length (c .before .before .before .before .before .before .before .before .before .before .before .before .before .before .before .before .before .before .before .before .before .before .before .before .before .args .scratch .now) = search needs in
     let finished = c .before .before .before .before .finish .ensures in
-    run-finished _ _ _ _ _ _ _ _ (passed (told-find _ _ _ _) _ (c .before .before .before .before .before .before .before .before .before .before .before .before .before .before .before .before .before .before .before .lawful-find .ensures) (c .before .before .before .before .before .before .before .before .before .before .before .before .before .before .before .before .before .before .if1 .left))
-    (accepted-by _ _ refl (sym (c .before .before .before .before .before .before .before .before .before .before .before .before .before .before .before .enum-told .given .1) ∙ c .before .before .before .before .before .before .before .before .before .before .before .before .before .before .before .before .before .check .ensures .0)) (scratch-enough _ (c .before .before .before .before .before .before .before .before .before .before .before .before .before .before .if2 .left))
+    run-finished _ _ _ _ _ _ _ _ (passed (told-find _ _ _ _) _ (c .before .before .before .before .before .before .before .before .before .before .before .before .before .before .before .before .before .before .before .before .lawful-find .ensures) (c .before .before .before .before .before .before .before .before .before .before .before .before .before .before .before .before .before .before .before .if1 .left))
+    (accepted-by _ _ refl (sym (c .before .before .before .before .before .before .before .before .before .before .before .before .before .before .before .before .enum-told .given .1) ∙ c .before .before .before .before .before .before .before .before .before .before .before .before .before .before .before .before .before .before .check .ensures .0)) (scratch-enough _ (c .before .before .before .before .before .before .before .before .before .before .before .before .before .before .if2 .left))
     (c .before .before .before .before .before .before .before .before .before .before .before .run .ensures) (finished .0) (finished .1 .0) (finished .1 .1 ∙ ap scratch-after same)
 
 pub convert-spec : {M : Type 1} → statement M

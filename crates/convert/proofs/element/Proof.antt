@@ -8,14 +8,14 @@ use Rattle.convert.proofs.element.Statement.{statement}
 use Rattle.convert.proofs.element.Tie as tie
 
 returns : tie.Need-returns
-returns c = over-long _ _ _ _ _ _ _ (c .before .before .before .before .before .before .before .pre .0 .slotted) (over-limit _ (c .if1 .taken))
+returns c = over-long _ _ _ _ _ _ _ (c .before .before .before .before .before .before .before .before .pre .0 .slotted) (over-limit _ (c .if1 .taken))
 
 put-requires : tie.Need-put-requires
-put-requires c κs = (c .before .before .before .before .before .before .before .before .before .pre .0 .slotted, lit< tt, within-limit _ (c .before .before .if1 .left))
+put-requires c κs = (c .before .before .before .before .before .before .before .before .before .before .pre .0 .slotted, lit< tt, within-limit _ (c .before .before .if1 .left))
 
 run-codes-requires : tie.Need-run-codes-requires
 run-codes-requires c κs =
-    let start = c .before .before .before .before .before .before .before .before .before .before .before .before .before .before .before .before .before in
+    let start = c .before .before .before .before .before .before .before .before .before .before .before .before .before .before .before .before .before .before in
     let put = c .before .before .before .before .before .before .before .put .ensures in (
       record {
         record-fits = start .pre .0 .record-fits;
@@ -31,7 +31,7 @@ run-codes-requires c κs =
 
 returns-2 : tie.Need-returns-2
 returns-2 c =
-    let start = c .before .before .before .before .before .before .before .before .before .before .before .before .before .before .before .before .before .before .before .before .before .before .before .before in
+    let start = c .before .before .before .before .before .before .before .before .before .before .before .before .before .before .before .before .before .before .before .before .before .before .before .before .before in
     let put = c .before .before .before .before .before .before .before .before .before .before .before .before .before .before .put .ensures in
     put-and-run _ _ _ _ _ _ _ (start .pre .0 .slotted) (within-limit _ (c .before .before .before .before .before .before .before .before .before .before .before .before .before .before .before .before .before .if1 .left)) (put .0) (put .1) (start .pre .1)
     (c .before .before .before .before .before .before .run-codes .ensures)

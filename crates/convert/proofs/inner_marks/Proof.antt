@@ -19,16 +19,16 @@ abbrev μ-loop : tie.MeasureT-loop
 loop-again : tie.Need-loop-again Inv-loop μ-loop
 unfolding is-inner-mark
 loop-again c =
-    let a = c .before .before .before .before .args in
-    let l = c .before .before .before .loop in
-    (omega arith, omega arith, marks-hit (now (a .text)) (l .n) (l .i) (l .inv .2) (c .before .before .loop-test .taken) (c .if1 .taken))
+    let a = c .before .before .before .before .before .before .args in
+    let l = c .before .before .before .before .before .loop in
+    (omega arith, omega arith, marks-hit (now (a .text)) (l .n) (l .i) (l .inv .2) (c .before .before .before .before .loop-test .taken) (c .if1 .taken))
 
 loop-again-2 : tie.Need-loop-again-2 Inv-loop μ-loop
 unfolding is-inner-mark
 loop-again-2 c =
-    let a = c .before .before .before .before .args in
-    let l = c .before .before .before .loop in
-    (omega arith, omega arith, marks-miss (now (a .text)) (l .n) (l .i) (l .inv .2) (c .before .before .loop-test .taken) (c .if1 .left))
+    let a = c .before .before .before .before .before .before .args in
+    let l = c .before .before .before .before .before .loop in
+    (omega arith, omega arith, marks-miss (now (a .text)) (l .n) (l .i) (l .inv .2) (c .before .before .before .before .loop-test .taken) (c .if1 .left))
 
 returns : tie.Need-returns Inv-loop μ-loop
 returns c =

@@ -8,11 +8,11 @@ use Rattle.convert.proofs.pass.Tie as tie
 
 returns : tie.Need-returns
 unfolding passed
-returns c = rw (eq-eqb (c .before .args .mark) value-mark (c .if1 .taken))
+returns c = rw (eq-eqb (c .before .before .args .mark) value-mark (c .if1 .taken))
 
 returns-2 : tie.Need-returns-2
 unfolding passed
-returns-2 c = rw (ne-eqb (c .before .args .mark) value-mark (c .if1 .left))
+returns-2 c = rw (ne-eqb (c .before .before .args .mark) value-mark (c .if1 .left))
 
 pub pass-spec : {M : Type 1} → statement M
 pass-spec = tie.close (tie.spec (λ c. search needs) (λ c. search needs) returns returns-2)
