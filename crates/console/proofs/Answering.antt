@@ -100,7 +100,7 @@ module _ (item string : Bytes) (a v s : ℕ) {room scratch : ℕ} {r : Converted
       ∙ sym (ap (answered string item) g ∙ ap (λ (n : ℕ). printed (convert item string a v s program-budget n scratch-least)) (sym wide) ∙ ap (λ (n : ℕ). printed (convert item string a v s program-budget room n)) (sym deep))
 
 -- the address as the code has it
-pub address-bad : (o : Option Address) {r : ReadAddress} → r ≡ address-read o → r ≡ ReadAddress.Bad → o ≡ none
+pub address-bad : (o : Option Address) {r : ReadAddress} {n : ℕ} → r ≡ address-read o → r ≡ ReadAddress.Refused n → o ≡ none
 unfolding address-read
 address-bad none e f = refl
 address-bad (some p) e f = let z : _≡_ {A = ℕ} 0 1 = cc in absurd (omega arith)

@@ -10,6 +10,7 @@ use codes::Operator;
 use dates::TypedDay;
 use grammar::Head;
 use grammar::ReadElm;
+use grammar::ReadHead;
 use libc::STDIN_FILENO;
 use libc::STDOUT_FILENO;
 use paper::Given;
@@ -81,7 +82,11 @@ fn say_element(e: &[u8]) {
 fn give(code: &[u8], e: &[u8], out: &mut [u8]) -> Given
     requires { ⌜ (length (now e) ≤ entry-most) × (entry-most ≤ length (now out)) ⌝ }
 {
-    let Head::Single(conversion) = grammar::checking::head(code) else {
+    let read = grammar::checking::head(code);
+    let ReadHead::Head(head) = read else {
+        return Given::Refused(read.refusal());
+    };
+    let Head::Single(conversion) = head else {
         return Given::Refused(paper::refusal::NOT_IN_GRAMMAR);
     };
     machine::giving::give(conversion, e, out)
@@ -193,24 +198,25 @@ fn show_substring(line: &[u8]) {
     say_given(given, &out, false);
 }
 
-fn say_no_elm(text: &[u8]) {
+fn say_no_elm(text: &[u8], number: u64) {
     say(text);
-    say_refused(paper::refusal::NOT_IN_GRAMMAR);
+    say_refused(number);
 }
 
 // An elm that takes two entries, or `[]`.
 fn show_after(line: &[u8]) {
     let text = field(line, 0, b'|');
-    let ReadElm::Elm { elm, next } = grammar::elms::elm(text, 0) else {
-        return say_no_elm(text);
+    let read = grammar::elms::elm(text, 0);
+    let ReadElm::Elm { elm, next } = read else {
+        return say_no_elm(text, read.refusal());
     };
     if next != text.len() {
-        return say_no_elm(text);
+        return say_no_elm(text, paper::refusal::NOT_IN_GRAMMAR);
     }
     match elm {
         Elm::Binary(op) => show_two(line, op),
         Elm::Substring => show_substring(line),
-        _ => say_no_elm(text),
+        _ => say_no_elm(text, paper::refusal::NOT_IN_GRAMMAR),
     }
 }
 

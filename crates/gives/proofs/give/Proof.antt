@@ -1,22 +1,33 @@
 -- `gives::give` is safe: a code that the grammar reads has its numbers within what the grammar keeps them.
 use borrow.Author.Needs.{needs}
-use mathlib.Core.Path.{sym, _∙_}
+use mathlib.Core.Path.{ap, _∙_}
+use mathlib.Core.Option.{some}
 use denote.Ref.{now}
+use Rattle.grammar.proofs.Answering.{heads, read-is}
 use Rattle.machine.proofs.CodeRuns.{single-within}
 use Rattle.gives.proofs.give.Statement.{statement}
 use Rattle.gives.proofs.give.Tie as tie
 
 give-requires : tie.Need-give-requires
 give-requires c κs =
-    let headed = c .before .before .before .before in
-    let start = headed .before .before .before .before in
-    (start .pre .0, start .pre .1, single-within (now (start .args .code)) (sym (headed .head .ensures) ∙ c .before .before .conversion .given .1))
+    let read = c .before .before .before .before .before in
+    let headed = read .before .before in
+    let start = headed .before .before .before .before in (
+      start .pre .0,
+      start .pre .1,
+      single-within (now (start .args .code)) (read-is heads (headed .head .ensures) (read .read .given .1) ∙ ap some (c .before .before .head2 .given .1)),
+    )
 
 pub give-spec : {M : Type 1} → statement M
 give-spec =
     tie.close
     (tie.spec
     (λ c κs. search needs)
+    (λ c. search needs)
+    (λ c. search needs)
+    (λ c κs. search needs)
+    (λ c. search needs)
+    (λ c. search needs)
     (λ c. search needs)
     (λ c. search needs)
     give-requires

@@ -1,6 +1,6 @@
 -- `gives::show_after` is safe: an elm that the grammar reads has its numbers within what the grammar keeps them.
 use borrow.Author.Needs.{needs}
-use Rattle.grammar.proofs.Taken.{elm-is}
+use Rattle.grammar.proofs.Answering.{elms, read-is}
 use Rattle.machine.proofs.Within.{elm-reads, read-has}
 use Rattle.machine.proofs.Operands.{binary-operator}
 use Rattle.gives.proofs.show_after.Statement.{statement}
@@ -9,7 +9,7 @@ use Rattle.gives.proofs.show_after.Tie as tie
 show-two-requires : tie.Need-show-two-requires
 show-two-requires c κs =
     let told = c .before .before .before .before .before in
-    binary-operator (read-has (elm-reads _ 0) (elm-is (told .before .before .elm .ensures) (told .elm2 .given .1))) (c .before .elm3 .given .1)
+    binary-operator (read-has (elm-reads _ 0) (read-is elms (told .before .before .elm .ensures) (told .read .given .1))) (c .before .elm2 .given .1)
 
 pub show-after-spec : {M : Type 1} → statement M
 show-after-spec =
@@ -19,6 +19,7 @@ show-after-spec =
     (λ c κs. search needs)
     (λ c. search needs)
     (λ c. search needs)
+    (λ c κs. search needs)
     (λ c κs. search needs)
     (λ c. search needs)
     (λ c κs. search needs)
