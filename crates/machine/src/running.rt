@@ -61,18 +61,14 @@ fn function<'a>(
     loop {
         let read = grammar::elms::elm(code, at);
         let ReadElm::Elm { elm, next } = read else {
-            return Ran::Stopped {
-                number: read.refusal(),
-                steps,
-            };
+            let number = read.refusal();
+            return Ran::Stopped { number, steps };
         };
         let left = budget - steps;
         let taken = stepping::step(item, code, elm, v, s, held, left, scratch, lens, work);
         let Step::Done { cost, held: after } = taken else {
-            return Ran::Stopped {
-                number: taken.refusal(),
-                steps,
-            };
+            let number = taken.refusal();
+            return Ran::Stopped { number, steps };
         };
         held = after;
         steps += cost;
@@ -167,10 +163,8 @@ fn run_code<'a>(
 {
     let read = grammar::checking::head(code);
     let ReadHead::Head(head) = read else {
-        return Ran::Stopped {
-            number: read.refusal(),
-            steps,
-        };
+        let number = read.refusal();
+        return Ran::Stopped { number, steps };
     };
     match head {
         Head::Function { first } => function(
