@@ -26,12 +26,15 @@ pub(crate) fn settle(
     requires { ⌜ Slotted (now scratch) (now lens) × (k < stack-most) × (length (now bytes) ≤ entry-most) × (taken ≤ record-most) ⌝ }
     ensures { λ r. ⌜ Puts left taken (given (now (bytes .entry))) k r (now (scratch .entry)) (now (lens .entry)) (now (scratch .exit)) (now (lens .exit)) ⌝ }
 {
-    let cost = 1 + taken + bytes.len() as u64;
-    if left < cost {
+    let price = 1 + taken + bytes.len() as u64;
+    if left < price {
         return Step::Refused(refusal::OVER_BUDGET);
     }
     slots::put(bytes, scratch, lens, k);
-    Step::Done { cost, held: k + 1 }
+    Step::Done {
+        cost: price,
+        held: k + 1,
+    }
 }
 
 // An operand: 9 is its own refusal.
