@@ -17,22 +17,6 @@ use Rattle.lent.proofs.Laws.{over-is, over-over, length-over}
 use Rattle.console.specs.Lines.{numbered, shown, line-most}
 
 -- a byte of the text drawn is that byte drawn
-pub drawn-attribute : (b : ℕ) → b ≡ 254 → 94 ≡ drawn b
-unfolding drawn
-drawn-attribute b e = rw e
-
-pub drawn-value : (b : ℕ) → b ≡ 253 → 93 ≡ drawn b
-unfolding drawn
-drawn-value b e = rw e
-
-pub drawn-subvalue : (b : ℕ) → b ≡ 252 → 92 ≡ drawn b
-unfolding drawn
-drawn-subvalue b e = rw e
-
-pub drawn-other : (b : ℕ) → (b ≡ 254 → ⊥) → (b ≡ 253 → ⊥) → (b ≡ 252 → ⊥) → b ≡ drawn b
-unfolding drawn
-drawn-other b f g h = rw (ne-eqb b 254 f, ne-eqb b 253 g, ne-eqb b 252 h)
-
 pub drawn-at : (text : Bytes) (j : ℕ) {x : ℕ} → x ≡ drawn (getD text j 0) → x ≡ getD (map drawn text) j 0
 unfolding drawn
 drawn-at text j e = e ∙ sym (List·getD-map drawn text j 0)

@@ -5,7 +5,7 @@ use Rattle.console.proofs.line_end.Statement.{statement}
 use Rattle.console.proofs.line_end.Tie as tie
 
 returns : tie.Need-returns
-returns c = scan-end 10 _ _ (c .next-mark .ensures)
+returns c = scan-end 10 _ _ (c .first-within .ensures)
 
 pub line-end-spec : {M : Type 1} → statement M
 line-end-spec = tie.close (tie.spec (λ c κs. search needs) returns)
