@@ -4,18 +4,18 @@ use mathlib.Core.Path.{_≡_}
 use mathlib.Core.List.{List, [], _∷_}
 use lib.ListN.{length, getD, take, drop, set}
 use Rattle.paper.specs.Bytes.{Bytes}
-use Rattle.paper.specs.Sizes.{entry-most, record-most, scratch-least}
+use Rattle.paper.specs.Sizes.{entry-most, record-most, stack-most, scratch-least}
 use Rattle.lent.specs.Over.{over}
 
--- 16 entries, behind them the element on its way through the codes, and one to spare
+-- the stack's entries, behind them the element on its way through the codes, and one to spare
 abbrev pub element-slot : ℕ
-element-slot = 16
+element-slot = stack-most
 
 abbrev pub spare-slot : ℕ
-spare-slot = 17
+spare-slot = element-slot + 1
 
 abbrev pub slots : ℕ
-slots = 18
+slots = spare-slot + 1
 
 -- what slot k holds
 unfoldable pub entry-at : Bytes → List ℕ → ℕ → Bytes
