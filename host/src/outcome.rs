@@ -118,7 +118,7 @@ impl TypedDate {
 /// How converting is called: record, code, place, budget, output, scratch.
 pub type Converting = fn(&[u8], &[u8], Address, u64, &mut [u8], &mut [u8]) -> Convert;
 
-/// One that carries out the six calls of document 01.
+/// One that carries out document 01's five calls and its ceiling.
 #[derive(Clone, Copy)]
 pub struct Implementation {
     /// What it is called in messages.

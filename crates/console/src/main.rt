@@ -68,9 +68,9 @@ fn respond<'a>(code: &'a [u8], address: &[u8], item: &'a [u8], line: &mut [u8]) 
     ensures { λ r. ⌜ r ≡ length (answered (now (code .entry)) (now (item .entry)) (all-read (address-form (now (address .entry))))) ⌝ }
     ensures { λ _. ⌜ now (line .exit) ≡ over (now (line .entry)) 0 (answered (now (code .entry)) (now (item .entry)) (all-read (address-form (now (address .entry))))) ⌝ }
 {
-    let ReadAddress::Address { a, v, s } = grammar::addresses::address(address) else {
-        lent::copy_in(b"4 0 \n", line, 0);
-        return 5;
+    let read = grammar::addresses::address(address);
+    let ReadAddress::Address { a, v, s } = read else {
+        return show(read.refusal(), 0, &address[0..0], line);
     };
     let mut out = [0u8; Limit::RECORD.most];
     let mut scratch = [0u8; Limit::SCRATCH.most];

@@ -23,3 +23,8 @@ address = do
 unfoldable pub address-read : Option Address → ReadAddress
 address-read none = ReadAddress.Refused bad-address
 address-read (some p) = ReadAddress.Address (p .a) (p .v) (p .s)
+
+-- the number that each case carries
+abbrev pub address-refusal : ReadAddress → ℕ
+address-refusal (ReadAddress.Address a v s) = 0
+address-refusal (ReadAddress.Refused number) = number

@@ -26,6 +26,7 @@ ghost use Rattle.codes.specs.Meaning.{conversion-of};
 ghost use Rattle.dates.specs.Dated.{typed-of};
 ghost use Rattle.grammar.specs.Answers.{num-refusal, fill-refusal, conversion-refusal, elm-refusal};
 ghost use Rattle.grammar.specs.Checking.{head-refusal, fault-in, verdict-of, report-in};
+ghost use Rattle.grammar.specs.Addresses.{address-refusal};
 
 // The byte at a place, and the place after it.
 pub(crate) struct Ahead {
@@ -163,6 +164,17 @@ impl ReadHead {
 pub enum ReadAddress {
     Address { a: u64, v: u64, s: u64 },
     Refused(u64),
+}
+
+impl ReadAddress {
+    pub fn refusal(self) -> u64
+        ensures { λ r. ⌜ r ≡ address-refusal self ⌝ }
+    {
+        match self {
+            ReadAddress::Address { a: _, v: _, s: _ } => 0,
+            ReadAddress::Refused(number) => number,
+        }
+    }
 }
 
 // One code: its attribute loads and other steps, or its fault.

@@ -30,6 +30,10 @@ use Rattle.paper.proofs.Stack.{Room, Safe, answers, refuses-itself, goe
 abbrev table : ℕ → Bool
 table n = within 1 16 n
 
+-- the numbers that are tried before the run, but for the scratch's
+abbrev early : ℕ → Bool
+early n = within 1 7 n
+
 -- the numbers that a run's own steps refuse with
 abbrev own : ℕ → Bool
 own n = within 9 14 n
@@ -128,49 +132,67 @@ conversion-numbered (Conversion.date n s) [] = answered
 conversion-numbered (Conversion.date n s) (b ∷ bs) = search (tests, on-numbered) depth 8
 
 -- checking: 5, 6, 7
-all-stacked-numbered : (es : List Elm) (held : ℕ) → Numbered table (all-stacked es held)
+all-stacked-numbered : (es : List Elm) (held : ℕ) → Numbered early (all-stacked es held)
 unfolding all-stacked stacked
 all-stacked-numbered [] held = answered
 all-stacked-numbered (e ∷ es) held = search (tests, all-stacked-numbered es) depth 8
 
-lawful-numbered : (c : Code) → Numbered table (lawful c)
+lawful-numbered : (c : Code) → Numbered early (lawful c)
 unfolding lawful
 lawful-numbered (Code.function es) = search (tests, all-stacked-numbered)
 lawful-numbered (Code.single k) = answered
 
-in-grammar-numbered : (o : Option Code) → Numbered table (in-grammar o)
+in-grammar-numbered : (o : Option Code) → Numbered early (in-grammar o)
 in-grammar-numbered none = search tests
 in-grammar-numbered (some c) = answered
 
-in-turn-numbered : (k : ℕ) {r : Res Code} (rest : Checked) → Numbered table r → Numbered table (checked-codes rest) → Numbered table (checked-codes (in-turn k r rest))
+in-turn-numbered : (k : ℕ) {r : Res Code} (rest : Checked) → Numbered early r → Numbered early (checked-codes rest) → Numbered early (checked-codes (in-turn k r rest))
 unfolding checked-codes
 in-turn-numbered k rest (numbered h) p = numbered h
 in-turn-numbered k (accepted cs) answered p = answered
 in-turn-numbered k (faulty n l) answered p = p
 
-judged-all-numbered : (k : ℕ) (texts : List Bytes) → Numbered table (checked-codes (judged-all k texts))
+judged-all-numbered : (k : ℕ) (texts : List Bytes) → Numbered early (checked-codes (judged-all k texts))
 unfolding judged-all judged checked-codes
 judged-all-numbered k [] = answered
 judged-all-numbered k (t ∷ ts) =
     in-turn-numbered k {r = judged t} _ (search (tests, in-grammar-numbered, lawful-numbered)) (judged-all-numbered (suc k) ts)
 
-check-numbered : (string : Bytes) → Numbered table (checked-codes (check string))
+check-numbered : (string : Bytes) → Numbered early (checked-codes (check string))
 unfolding check checked-codes
 check-numbered string =
-    either (λ c. Numbered table (checked-codes c)) (leb (length string) code-most) (judged-all-numbered 1 (code-texts string)) (numbered tt)
+    either (λ c. Numbered early (checked-codes c)) (leb (length string) code-most) (judged-all-numbered 1 (code-texts string)) (numbered tt)
 
 -- what is faulty has a number: a check that reports 0 has accepted
 pub faults-are-numbered : (string : Bytes) (n k : ℕ) → check string ≡ faulty n k → n ≢ 0
 unfolding checked-codes
-faults-are-numbered string n k e = go (subst (λ (c : Checked). Numbered table (checked-codes c)) e (check-numbered string))
+faults-are-numbered string n k e = go (subst (λ (c : Checked). Numbered early (checked-codes c)) e (check-numbered string))
   where
-    go : {m : ℕ} → Numbered {A = List Code} table (refused m) → m ≢ 0
+    go : {m : ℕ} → Numbered {A = List Code} early (refused m) → m ≢ 0
     go (numbered h) f = rw f at h
+
+bounds : (low high n : ℕ) (t u : Bool) → leb low n ≡ t → leb n high ≡ u → T (t && u) → (low ≤ n) × (n ≤ high)
+bounds low high n true true e f h = (leb-true low n e, leb-true n high f)
+bounds low high n true false e f h = absurd h
+bounds low high n false u e f h = absurd h
+
+in-table : (low high n : ℕ) → 1 ≤ low → high ≤ 16 → T (within low high n) → T (table n)
+in-table low high n l u h =
+    let w = bounds low high n (leb low n) (leb n high) refl refl h in
+    rw (le-leb 1 n (omega arith), le-leb n 16 (omega arith)) tt
+
+-- a refusal with one of these numbers is one with one of more
+numbered-more : {A : Type 0} {p q : ℕ → Bool} {r : Res A} → ((n : ℕ) → T (p n) → T (q n)) → Numbered p r → Numbered q r
+numbered-more f answered = answered
+numbered-more f (numbered h) = numbered (f _ h)
+
+check-in-table : (string : Bytes) → Numbered table (checked-codes (check string))
+check-in-table string = numbered-more (λ n. in-table 1 7 n (omega arith) (omega arith)) (check-numbered string)
 
 -- before the run: 1, 2, 3, 4, checking, 8
 ready-numbered : (item string : Bytes) (a v s scratch : ℕ) → Numbered table (ready item string a v s scratch)
 unfolding ready lawful-place lawful-record lawful-id lawful-address lawful-code
-ready-numbered item string a v s scratch = search (tests, check-numbered) depth 10
+ready-numbered item string a v s scratch = search (tests, check-in-table) depth 10
 
 -- a run that stops only with one of these numbers
 data Stops {A : Type 0} (p : ℕ → Bool) : Run A → Type 0 where
@@ -281,15 +303,12 @@ number-told : {A : Type 0} {p : ℕ → Bool} {r : Res A} → Numbered p r → (
 number-told answered n e = let z : _≡_ {A = ℕ} 0 1 = cc in absurd (omega arith)
 number-told {p = p} (numbered h) n e = subst (λ (m : ℕ). T (p m)) (ap refusal-of e) h
 
-bounds : (low high n : ℕ) (t u : Bool) → leb low n ≡ t → leb n high ≡ u → T (t && u) → (low ≤ n) × (n ≤ high)
-bounds low high n true true e f h = (leb-true low n e, leb-true n high f)
-bounds low high n true false e f h = absurd h
-bounds low high n false u e f h = absurd h
-
-own-in-table : (n : ℕ) → T (own n) → T (table n)
-own-in-table n h =
-    let w = bounds 9 14 n (leb 9 n) (leb n 14) refl refl h in
-    rw (le-leb 1 n (omega arith), le-leb n 16 (omega arith)) tt
+-- before the run, but for the scratch, whatever follows gives: 1 to 7
+pub early-refusals : {B : Type 0} (item string : Bytes) (a v s : ℕ) (k : List Code → B) (n : ℕ)
+    → (lawful-place item a v s >> (checked-codes (check string) >>= λ cs. given (k cs))) ≡ refused n → (1 ≤ n) × (n ≤ 7)
+unfolding lawful-place lawful-record lawful-id lawful-address
+early-refusals item string a v s k n e =
+    bounds 1 7 n _ _ refl refl (number-told {p = early} (search (tests, check-numbered) depth 10) n e)
 
 -- Every refusal of converting carries a number of the paper's table; so none is taken for an answer, whose number is 0.
 pub converting-numbered : (item string : Bytes) (a v s budget room scratch : ℕ) (n : ℕ)
@@ -298,7 +317,7 @@ unfolding convert
 converting-numbered item string a v s budget room scratch n e =
     bounds 1 16 n _ _ refl refl
     (number-told
-    (carried-numbered own-in-table tt tt item a v s budget room (ready-numbered item string a v s scratch) (ready-safe item string a v s scratch))
+    (carried-numbered (λ n. in-table 9 14 n (omega arith) (omega arith)) tt tt item a v s budget room (ready-numbered item string a v s scratch) (ready-safe item string a v s scratch))
     n
     e)
 

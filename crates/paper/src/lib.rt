@@ -1,6 +1,6 @@
 // Document 01 as definitions (specs/), the laws that speak of the definitions alone (proofs/),
 // and, in code, the mark bytes and size limits that every crate above shares.
-// What the product answers is stated by specs/; the specs/ of the other crates only turn it into the forms that their code has.
+// What document 01's calls answer is stated by specs/; the specs/ of the other crates only turn it into the forms that their code has.
 ghost use mathlib.Core.Path.{_≡_};
 ghost use Rattle.paper.specs.Program.{drawn};
 
@@ -13,7 +13,7 @@ const VALUE: u8 = Mark::VALUE.byte;
 
 const SUBVALUE: u8 = Mark::SUBVALUE.byte;
 
-// A mark: "Marks are bytes of our choosing by Pick custom". What walks by a mark takes one, so no other byte is passed for it.
+// A mark: "Marks are bytes of our choosing by Pick custom". What walks by a mark takes one, so that a bare byte is not passed for it.
 pub struct Mark {
     pub byte: u8,
 }

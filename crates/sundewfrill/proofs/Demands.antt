@@ -18,7 +18,7 @@ use Rattle.paper.proofs.Predicates.{All}
 use Rattle.paper.proofs.Budget.{Completed, defined-costs, converting-within-budget, converting-over-budget}
 use Rattle.paper.proofs.Ceiling.{steps-within-ceiling}
 use Rattle.paper.proofs.Stack.{SafeCode, checked-codes-are-safe}
-use Rattle.paper.proofs.Numbered.{converting-numbered, converting-told, told-refused, no-stack-fault as converting-has-no-stack-fault}
+use Rattle.paper.proofs.Numbered.{early-refusals, converting-numbered, converting-told, told-refused, no-stack-fault as converting-has-no-stack-fault}
 use Rattle.paper.proofs.Replacing as replacing
 use Rattle.convert.specs.Running.{codes-in, Accepts}
 use Rattle.convert.specs.Ceiling.{ceiling-of}
@@ -158,10 +158,10 @@ module _ (κs : Lfts 3) (args : _) (r : _) (exits : _) (post : ceiling-call.Post
   abbrev asked : Res ℕ
   asked = ceiling-of (args .0 .now) (args .1 .0 .now) (args .1 .1 .0) (args .1 .1 .1 .0) (args .1 .1 .1 .1 .0)
 
-  pub ceiling-refused : (n : ℕ) → asked ≡ refused n → (r ≡ n) × (1 ≤ n) × (n ≤ 16)
+  pub ceiling-refused : (n : ℕ) → asked ≡ refused n → (r ≡ n) × (1 ≤ n) × (n ≤ 7)
+  unfolding ceiling-of
   ceiling-refused n e =
-      let alike = refused-alike (args .0 .now) (args .1 .0 .now) (args .1 .1 .0) (args .1 .1 .1 .0) (args .1 .1 .1 .1 .0) 0 0 0 n e in
-      let told = converting-numbered (args .0 .now) (args .1 .0 .now) (args .1 .1 .0) (args .1 .1 .1 .0) (args .1 .1 .1 .1 .0) 0 0 0 n (ap (λ (o : Outcome). o .answer) alike) in
+      let told = early-refusals (args .0 .now) (args .1 .0 .now) (args .1 .1 .0) (args .1 .1 .1 .0) (args .1 .1 .1 .1 .0) _ n e in
       (post .0 ∙ ap refusal-of e, told .0, told .1)
 
   pub ceiling-given : (n : ℕ) → asked ≡ given n → (r ≡ 0) × (exits .1 .1 .1 .1 .1 .0 .now ≡ n)
