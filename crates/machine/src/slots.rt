@@ -9,7 +9,7 @@ ghost use Rattle.machine.specs.Slots.{slots, entry-at, put-in, put-lengt
 // Slots: the stack's entries, the element on its way through the codes, and one to spare.
 pub const ELEMENT: usize = Limit::STACK.most;
 
-const SPARE: usize = ELEMENT + 1;
+pub(crate) const SPARE: usize = ELEMENT + 1;
 
 pub const SLOTS: usize = SPARE + 1;
 
