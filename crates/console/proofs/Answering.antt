@@ -11,8 +11,9 @@ use native.Mathlib.Omega.{arith}
 use borrow.Author.Tests.{leb-true}
 use Rattle.paper.specs.Bytes.{Bytes, buffer, bytes}
 use Rattle.paper.specs.Sizes.{number-most, record-most, entry-most, scratch-least}
+use Rattle.paper.specs.Numbers.{digits, trimmed, decimal}
 use Rattle.paper.specs.Codes.{Code}
-use Rattle.paper.specs.Refusals.{Res, given, refused, refusal-of, answer-of}
+use Rattle.paper.specs.Refusals.{Res, given, refused, refusal-of, answer-of, bad-address}
 use Rattle.paper.specs.Grammar.{all-read}
 use Rattle.paper.specs.Converting.{Outcome, fitted, finished, carried-out, within-budget, ready, convert, output-after}
 use Rattle.paper.specs.Program.{Address, program-budget, line, address-form, printed, answered, program}
@@ -22,9 +23,9 @@ use Rattle.lent.specs.Over.{over}
 use Rattle.lent.proofs.Laws.{length-over}
 use Rattle.convert.specs.Gather.{converted-of}
 use Rattle.convert.specs.declared.Converted.{Converted}
-use Rattle.grammar.specs.Addresses.{address-read}
+use Rattle.grammar.specs.Addresses.{address-read, address-refusal}
 use Rattle.grammar.specs.declared.ReadAddress.{ReadAddress}
-use Rattle.console.specs.Lines.{shown, line-most}
+use Rattle.console.specs.Lines.{numbered, shown, line-most}
 use Rattle.console.proofs.Writing.{shown-printed, shown-short}
 
 -- "then 16": an answer is no longer than the output
@@ -100,10 +101,11 @@ module _ (item string : Bytes) (a v s : ℕ) {room scratch : ℕ} {r : Converted
       ∙ sym (ap (answered string item) g ∙ ap (λ (n : ℕ). printed (convert item string a v s program-budget n scratch-least)) (sym wide) ∙ ap (λ (n : ℕ). printed (convert item string a v s program-budget room n)) (sym deep))
 
 -- the address as the code has it
-pub address-bad : (o : Option Address) {r : ReadAddress} {n : ℕ} → r ≡ address-read o → r ≡ ReadAddress.Refused n → o ≡ none
+pub address-bad : (o : Option Address) {r : ReadAddress} {n number : ℕ} → r ≡ address-read o → r ≡ ReadAddress.Refused n → number ≡ address-refusal r
+    → (o ≡ none) × (number ≡ bad-address)
 unfolding address-read
-address-bad none e f = refl
-address-bad (some p) e f = let z : _≡_ {A = ℕ} 0 1 = cc in absurd (omega arith)
+address-bad none e f g = (refl, g ∙ ap address-refusal e)
+address-bad (some p) e f g = let z : _≡_ {A = ℕ} 0 1 = cc in absurd (omega arith)
 
 pub address-good : (o : Option Address) {r : ReadAddress} {a v s : ℕ} → r ≡ address-read o → r ≡ ReadAddress.Address a v s → o ≡ some (record { a = a; v = v; s = s })
 unfolding address-read
@@ -115,10 +117,9 @@ address-good (some p) {r} {a} {v} {s} e f =
     rw (← x, ← y, ← z)
 
 -- "it prints `4 0 ` and a line end"
-pub refused-line : (string item line : Bytes) {now : Bytes} {o : Option Address} → o ≡ none → now ≡ over line 0 (52 ∷ 32 ∷ 48 ∷ 32 ∷ 10 ∷ [])
-    → (5 ≡ length (answered string item o)) × (now ≡ over line 0 (answered string item o))
-unfolding answered bytes
-refused-line string item line g e = (rw g refl, e ∙ ap (λ (x : Option Address). over line 0 (answered string item x)) (sym g))
+pub refused-line : (string item : Bytes) {o : Option Address} {number : ℕ} → (o ≡ none) × (number ≡ bad-address) → shown number 0 [] ≡ answered string item o
+unfolding shown numbered answered bytes decimal digits trimmed
+refused-line string item w = ap (λ (n : ℕ). shown n 0 []) (w .1) ∙ sym (ap (answered string item) (w .0))
 
 -- no line of the program's is too long
 answered-short : (string item : Bytes) (o : Option Address) → length (answered string item o) ≤ line-most

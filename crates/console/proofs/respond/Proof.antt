@@ -8,14 +8,21 @@ use Rattle.console.proofs.Answering.{lent-output, lent-scratch, refusal
 use Rattle.console.proofs.respond.Statement.{statement}
 use Rattle.console.proofs.respond.Tie as tie
 
-returns : tie.Need-returns
-returns c = refused-line _ _ _ (address-bad _ (c .before .before .before .before .before .before .before .address .ensures) (c .before .before .before .before .before .enum-told .given .1)) (c .before .before .copy-in .ensures)
-
-part-show-end : tie.Need-part-show-end
-part-show-end c = omega (arith, length-fits _ _ _ _ _ (c .before .before .before .convert .ensures .0) (c .before .before .before .convert .ensures .1 .0) lent-output lent-scratch)
-
 show-requires : tie.Need-show-requires
-show-requires c κs = (
+show-requires c κs =
+    let w = address-bad _ (c .before .before .before .before .before .address .ensures) (c .before .before .before .enum-told .given .1) (c .before .before .refusal .ensures) in
+    (omega (arith, w .1), omega arith, omega arith, c .before .before .before .before .before .before .before .before .before .before .pre)
+
+returns : tie.Need-returns
+returns c =
+    let e = refused-line _ _ (address-bad _ (c .before .before .before .before .before .before .before .before .address .ensures) (c .before .before .before .before .before .before .enum-told .given .1) (c .before .before .before .before .before .refusal .ensures)) in
+    (c .before .before .show .ensures .0 ∙ ap length e, c .before .before .show .ensures .1 ∙ ap (over _ 0) e)
+
+part-show-end-2 : tie.Need-part-show-end-2
+part-show-end-2 c = omega (arith, length-fits _ _ _ _ _ (c .before .before .before .convert .ensures .0) (c .before .before .before .convert .ensures .1 .0) lent-output lent-scratch)
+
+show-requires-2 : tie.Need-show-requires-2
+show-requires-2 c κs = (
   refusal-short _ _ _ _ _ (c .before .before .before .before .before .convert .ensures .0) (c .before .before .before .before .before .convert .ensures .1 .0) lent-output lent-scratch,
   steps-short _ _ _ _ _ (c .before .before .before .before .before .convert .ensures .0) (c .before .before .before .before .before .convert .ensures .1 .0) lent-output lent-scratch,
   answer-short _ _ _ _ _ (c .before .before .before .before .before .convert .ensures .0) (c .before .before .before .before .before .convert .ensures .1 .0) lent-output lent-scratch,
@@ -24,8 +31,8 @@ show-requires c κs = (
 
 returns-2 : tie.Need-returns-2
 returns-2 c =
-    let e = line-is _ _ _ _ _ (c .before .before .before .before .before .before .before .before .convert .ensures .0) (c .before .before .before .before .before .before .before .before .convert .ensures .1 .0) lent-output lent-scratch (address-good _ (c .before .before .before .before .before .before .before .before .before .before .before .before .before .before .address .ensures) (c .before .before .before .before .before .before .before .before .before .before .before .before .a .given .1)) in
-    (c .before .before .show .ensures .0 ∙ ap length e, c .before .before .show .ensures .1 ∙ ap (over _ 0) e)
+    let e = line-is _ _ _ _ _ (c .before .before .before .before .before .before .before .before .convert .ensures .0) (c .before .before .before .before .before .before .before .before .convert .ensures .1 .0) lent-output lent-scratch (address-good _ (c .before .before .before .before .before .before .before .before .before .before .before .before .before .before .address .ensures) (c .before .before .before .before .before .before .before .before .before .before .before .before .read .given .1)) in
+    (c .before .before .show2 .ensures .0 ∙ ap length e, c .before .before .show2 .ensures .1 ∙ ap (over _ 0) e)
 
 pub respond-spec : {M : Type 1} → statement M
 respond-spec =
@@ -34,8 +41,11 @@ respond-spec =
     (λ c κs. search needs)
     (λ c. search needs)
     (λ c. search needs)
-    (λ c. search needs)
     (λ c κs. search needs)
+    (λ c. search needs)
+    (λ c. search needs)
+    (λ c. search needs)
+    show-requires
     (λ c. search needs)
     returns
     (λ c. search needs)
@@ -43,7 +53,7 @@ respond-spec =
     (λ c κs. search needs)
     (λ c. search needs)
     (λ c. search needs)
-    part-show-end
-    show-requires
+    part-show-end-2
+    show-requires-2
     (λ c. search needs)
     returns-2)
