@@ -345,9 +345,9 @@ pub enum Bound {
 }
 
 // "1,025 + R" and "4,097": what an attribute load costs at most beside the record's length, and what any other step costs at most.
-const LOAD_MOST: u64 = 1 + Limit::ENTRY as u64;
+const LOAD_MOST: u64 = 1 + Limit::ENTRY.most as u64;
 
-const OTHER_MOST: u64 = 1 + 4 * Limit::ENTRY as u64;
+const OTHER_MOST: u64 = 1 + 4 * Limit::ENTRY.most as u64;
 
 // How many of the bytes part elements: 252 or 253. No early exit, so that it is compiled to SIMD.
 fn inner_marks(text: &[u8]) -> u64
@@ -358,7 +358,7 @@ fn inner_marks(text: &[u8]) -> u64
     while i < text.len() {
         let b = text[i];
         i += 1;
-        if (b == Mark::SUBVALUE) | (b == Mark::VALUE) {
+        if (b == Mark::SUBVALUE.byte) | (b == Mark::VALUE.byte) {
             n += 1;
         }
     }
