@@ -82,10 +82,11 @@ unfoldable pub separator-of : Separator → Option ℕ
 separator-of Separator.Absent = none
 separator-of (Separator.Byte b) = some b
 
-unfoldable pub conversion-of : Conversion → paper.Conversion
-conversion-of (Conversion.Plain p) = paper.plain (plain-of p)
-conversion-of (Conversion.Mask m) = paper.mask (mask-of m)
-conversion-of (Conversion.Date digits separator) = paper.date digits (separator-of separator)
+-- a code other than F may point into its code string, as a literal does
+unfoldable pub conversion-of : Bytes → Conversion → paper.Conversion
+conversion-of string (Conversion.Plain p) = paper.plain (plain-of p)
+conversion-of string (Conversion.Mask m) = paper.mask (mask-of m)
+conversion-of string (Conversion.Date digits separator) = paper.date digits (separator-of separator)
 
 unfoldable pub repeat-of : Repeat → paper.Repeat
 repeat-of Repeat.Each = paper.each
@@ -104,4 +105,4 @@ elm-of string (Elm.Binary o) = paper.binary (operator-of o)
 elm-of string Elm.Substring = paper.substring
 elm-of string Elm.Exchange = paper.exchange
 elm-of string Elm.Duplicate = paper.duplicate
-elm-of string (Elm.Convert c) = paper.convert (conversion-of c)
+elm-of string (Elm.Convert c) = paper.convert (conversion-of string c)

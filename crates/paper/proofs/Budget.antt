@@ -11,10 +11,12 @@ use lib.ListN.{take}
 use lib.Dec.{leb}
 use borrow.Author.Tests.{le-leb, leb-true, leb-false}
 use Rattle.paper.specs.Bytes.{Bytes, if_then_else_}
+use Rattle.paper.proofs.Truths.{chosen}
 use Rattle.paper.specs.Refusals.{Res, given, refused, over-budget}
 use Rattle.paper.specs.Codes.{Code}
 use Rattle.paper.specs.Steps.{Run, done, stop, step}
 use Rattle.paper.specs.Converting.{
+  Ending,
   Outcome,
   count,
   result,
@@ -52,7 +54,7 @@ pub record Completed (budget so-far : ℕ) (cs : List ℕ) (reported : ℕ) : Ty
   pub held : reported ≤ budget
   pub next-not-held : budget < so-far + sum (take (suc completed) cs)
 
-enough : (r : Run Bytes) (budget so-far : ℕ) → so-far + count r ≤ budget
+enough : {A : Type 0} (r : Run A) (budget so-far : ℕ) → so-far + count r ≤ budget
     → within-budget budget so-far r ≡ record { answer = result r; steps = so-far + count r }
 unfolding within-budget count result
 enough (done a) budget so-far h = rw add-zero
@@ -61,16 +63,24 @@ enough (step cost r) budget so-far h =
     let fits : leb (so-far + cost) budget ≡ true = le-leb (so-far + cost) budget (omega arith) in
     rw fits (enough r budget (so-far + cost) (omega arith) ∙ rw add-assoc)
 
+-- The steps reported are within the budget where those before it are.
+pub budget-kept : {A : Type 0} (r : Run A) (budget so-far : ℕ) → so-far ≤ budget → within-budget budget so-far r .steps ≤ budget
+unfolding within-budget
+budget-kept (done a) budget so-far h = h
+budget-kept (stop n) budget so-far h = h
+budget-kept (step cost r) budget so-far h =
+    chosen (λ (o : Ending _). o .steps ≤ budget) (leb (so-far + cost) budget) (λ e. budget-kept r budget (so-far + cost) (leb-true _ _ e)) (λ _. h)
+
 -- A run under a budget at or above its count.
-pub budget-holds : (r : Run Bytes) (budget : ℕ) → count r ≤ budget → within-budget budget 0 r ≡ unbudgeted r
+pub budget-holds : {A : Type 0} (r : Run A) (budget : ℕ) → count r ≤ budget → within-budget budget 0 r ≡ unbudgeted r
 unfolding unbudgeted
 budget-holds r budget h = enough r budget 0 (omega arith) ∙ rw zero-add
 
 -- refused for budget, with the count of the steps completed
-abbrev Short : ℕ → ℕ → List ℕ → Outcome → Type 0
+abbrev Short : {A : Type 0} → ℕ → ℕ → List ℕ → Ending A → Type 0
 Short budget so-far cs o = (o .answer ≡ refused over-budget) × Completed budget so-far cs (o .steps)
 
-later : (budget so-far cost : ℕ) (cs : List ℕ) (o : Outcome) → Short budget (so-far + cost) cs o → Short budget so-far (cost ∷ cs) o
+later : {A : Type 0} (budget so-far cost : ℕ) (cs : List ℕ) (o : Ending A) → Short budget (so-far + cost) cs o → Short budget so-far (cost ∷ cs) o
 unfolding sum
 later budget so-far cost cs o s = (
   s .0,
@@ -82,7 +92,7 @@ later budget so-far cost cs o s = (
   },
 )
 
-short-step : (r : Run Bytes) (budget so-far cost : ℕ) (t : Bool) → leb (so-far + cost) budget ≡ t → so-far ≤ budget
+short-step : {A : Type 0} (r : Run A) (budget so-far cost : ℕ) (t : Bool) → leb (so-far + cost) budget ≡ t → so-far ≤ budget
     → (so-far + cost ≤ budget → Short budget (so-far + cost) (costs r) (within-budget budget (so-far + cost) r))
     → Short budget so-far (cost ∷ costs r)
     (if t then within-budget budget (so-far + cost) r else record { answer = refused over-budget; steps = so-far })
@@ -98,7 +108,7 @@ short-step r budget so-far cost false e h again = (
   },
 )
 
-short : (r : Run Bytes) (budget so-far : ℕ) → so-far ≤ budget → budget < so-far + count r
+short : {A : Type 0} (r : Run A) (budget so-far : ℕ) → so-far ≤ budget → budget < so-far + count r
     → Short budget so-far (costs r) (within-budget budget so-far r)
 unfolding within-budget count costs
 short (done a) budget so-far h l = absurd (omega arith)
@@ -107,7 +117,7 @@ short (step cost r) budget so-far h l =
     short-step r budget so-far cost (leb (so-far + cost) budget) refl h (λ fits. short r budget (so-far + cost) fits (omega arith))
 
 -- A run under a budget below its count.
-pub budget-short : (r : Run Bytes) (budget : ℕ) → budget < count r → Short budget 0 (costs r) (within-budget budget 0 r)
+pub budget-short : {A : Type 0} (r : Run A) (budget : ℕ) → budget < count r → Short budget 0 (costs r) (within-budget budget 0 r)
 budget-short r budget l = short r budget 0 (omega arith) (omega arith)
 
 -- the costs that converting's defined count is the sum of: none when the run never begins

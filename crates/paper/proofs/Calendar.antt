@@ -1,23 +1,19 @@
 -- The calendar of the definitions: the year of a day, the length of a year, and that the day and the date are inverse to each other.
 -- Assumes nothing.
 use Prim.Native.Nat.{ℕ, zero, suc, pred, _+_, _-_, _*_, _/_, _%_, _≤_, _<_}
-use mathlib.Core.Path.{_≡_, refl, sym, _∙_, ap}
-use mathlib.Core.Bool.{Bool, true, false, not, _&&_, _||_, false≢true}
+use mathlib.Core.Path.{_≡_, refl, _∙_}
+use mathlib.Core.Bool.{Bool, true, false, not, _&&_, _||_}
 use mathlib.Core.List.{List, [], _∷_}
 use native.Mathlib.Omega.{arith}
 use lib.ListN.{length, getD}
-use native.Mathlib.Nat.{suc-mul, lt-of-mul-lt-mul-right, div-add-mod', mod-lt, le-refl, not-suc-le-zero, add-zero, zero-add, add-suc}
+use native.Mathlib.Nat.{le-refl, not-suc-le-zero, add-zero, zero-add, add-suc}
 use native.Mathlib.Numerals.{add-one}
-use lib.Dec.{leb, ltb, eqb, lit<}
+use lib.Dec.{leb, ltb, eqb}
 use borrow.Author.Tests.{leb-true, ltb-true, leb-false, eqb-true, eqb-false, lt-ltb, le-ltb, le-leb}
 use Rattle.paper.specs.Bytes.{if_then_else_, within}
 use Rattle.paper.specs.Dates.{Date, leap, month-lengths, days-before-year, days-in, days-to, year-of, month-day, date-of}
 use Rattle.paper.specs.TypedDates.{in-calendar}
-
--- both tests pass
-pub both : (a b : Bool) → (a && b) ≡ true → (a ≡ true) × (b ≡ true)
-both true b t = (refl, t)
-both false b t = absurd (false≢true t)
+use Rattle.paper.proofs.Truths.{both, chosen}
 
 -- the year that division gives is never too late, and at most one too early
 estimate-low : (n : ℕ) → days-before-year (suc (n * 400 / 146_097)) ≤ n
@@ -34,75 +30,48 @@ pub record In-year (n y : ℕ) : Type 0 where
   pub from : days-before-year y ≤ n
   pub to : n < days-before-year (suc y)
 
-in-year : (n e : ℕ) (late : Bool) → leb (days-before-year (suc (suc e))) n ≡ late → days-before-year (suc e) ≤ n
-    → n < days-before-year (suc (suc (suc e))) → In-year n (if late then suc (suc e) else suc e)
-in-year n e true t low high = record { first = omega arith; from = leb-true _ _ t; to = high }
-in-year n e false t low high = record { first = omega arith; from = low; to = leb-false _ _ t }
-
 pub year-of-in : (n : ℕ) → In-year n (year-of n)
 unfolding year-of
-year-of-in n = in-year n (n * 400 / 146_097) _ refl (estimate-low n) (estimate-high n)
+year-of-in n =
+    chosen (In-year n) (leb (days-before-year (suc (suc (n * 400 / 146_097)))) n)
+    (λ t. record { first = omega arith; from = leb-true _ _ t; to = estimate-high n })
+    (λ t. record { first = omega arith; from = estimate-low n; to = leb-false _ _ t })
 
 -- "Gregorian rules both ways": a year has 365 days, a leap year 366
 unfoldable pub year-length : ℕ → ℕ
 year-length y = if leap y then 366 else 365
 
--- multiples of k that are less than k apart
-near : (k q p : ℕ) → q * k < p * k + k → q ≤ p
-near k q p h = omega (arith, lt-of-mul-lt-mul-right k {m = q} {n = suc p} (rw suc-mul h))
-
--- every k-th year passed is counted once
-counted : (k y : ℕ) (turn : Bool) → 0 < k → eqb (suc y % k) 0 ≡ turn → suc y / k ≡ y / k + (if turn then 1 else 0)
-counted k y true pos t =
-    let now : suc y % k ≡ 0 = eqb-true _ _ t in
-    let up : suc y / k ≤ suc (y / k) =
-    near k (suc y / k) (suc (y / k)) (omega (arith, div-add-mod' (suc y) k, div-add-mod' y k, mod-lt y pos)) in
-    let down : suc (y / k) ≤ suc y / k =
-    near k (suc (y / k)) (suc y / k) (omega (arith, div-add-mod' (suc y) k, div-add-mod' y k)) in
-    omega arith
-counted k y false pos t =
-    let later : suc y % k ≡ 0 → ⊥ = eqb-false _ _ t in
-    let up : suc y / k ≤ y / k =
-    near k (suc y / k) (y / k) (omega (arith, div-add-mod' (suc y) k, div-add-mod' y k, mod-lt y pos)) in
-    let down : y / k ≤ suc y / k =
-    near k (y / k) (suc y / k) (omega (arith, div-add-mod' (suc y) k, div-add-mod' y k, mod-lt (suc y) pos)) in
-    omega arith
-
--- what every 100th and every 400th year say of every 4th
-nested : (y : ℕ) (four hundred four-hundred : Bool)
+-- a day more every 4th year, not every 100th, but every 400th
+leap-days : (y : ℕ) (four hundred four-hundred : Bool)
     → eqb (y % 4) 0 ≡ four → eqb (y % 100) 0 ≡ hundred → eqb (y % 400) 0 ≡ four-hundred
-    → (if four then 1 else 0) + (if four-hundred then 1 else 0)
-    ≡ (if hundred then 1 else 0) + (if four && (not hundred || four-hundred) then 1 else 0)
-nested y true true true a b c = refl
-nested y true true false a b c = refl
-nested y true false true a b c = omega (arith, eqb-true, eqb-false)
-nested y true false false a b c = refl
-nested y false true true a b c = omega (arith, eqb-true, eqb-false)
-nested y false true false a b c = omega (arith, eqb-true, eqb-false)
-nested y false false true a b c = omega (arith, eqb-true, eqb-false)
-nested y false false false a b c = refl
+    → 365 + (if four then 1 else 0) + (if four-hundred then 1 else 0)
+    ≡ (if hundred then 1 else 0) + (if four && (not hundred || four-hundred) then 366 else 365)
+leap-days y true true true a b c = refl
+leap-days y true true false a b c = refl
+leap-days y true false true a b c = omega (arith, eqb-true, eqb-false)
+leap-days y true false false a b c = refl
+leap-days y false true true a b c = omega (arith, eqb-true, eqb-false)
+leap-days y false true false a b c = omega (arith, eqb-true, eqb-false)
+leap-days y false false true a b c = omega (arith, eqb-true, eqb-false)
+leap-days y false false false a b c = refl
 
--- a leap year's one day more
-leap-day : (b : Bool) → (if b then 366 else 365) ≡ 365 + (if b then 1 else 0)
-leap-day true = refl
-leap-day false = refl
+-- every k-th year is counted once
+counted : (k y : ℕ) → (suc y % k ≡ 0 → suc y / k ≡ y / k + 1) → ((suc y % k ≡ 0 → ⊥) → suc y / k ≡ y / k + 0)
+    → suc y / k ≡ y / k + (if eqb (suc y % k) 0 then 1 else 0)
+counted k y f g = chosen (λ n. suc y / k ≡ y / k + n) (eqb (suc y % k) 0) (λ t. f (eqb-true _ _ t)) (λ t. g (eqb-false _ _ t))
 
 -- a year more, where a, b and c of its predecessors are a 4th, a 100th and a 400th year
 one-more : (y a b c a′ b′ c′ four hundred four-hundred l : ℕ) → b ≤ a → b′ ≤ a′
-    → a′ ≡ a + four → b′ ≡ b + hundred → c′ ≡ c + four-hundred → four + four-hundred ≡ hundred + l
-    → 365 * suc y + a′ - b′ + c′ ≡ 365 * y + a - b + c + (365 + l)
+    → a′ ≡ a + four → b′ ≡ b + hundred → c′ ≡ c + four-hundred → 365 + four + four-hundred ≡ hundred + l
+    → 365 * suc y + a′ - b′ + c′ ≡ 365 * y + a - b + c + l
 one-more y a b c a′ b′ c′ four hundred four-hundred l h h′ p q r e = omega arith
 
 -- a year's days lie between its first day and the next year's
 pub year-after : (y : ℕ) → days-before-year (suc (suc y)) ≡ days-before-year (suc y) + year-length (suc y)
 unfolding year-length leap days-before-year
 year-after y =
-    one-more y (y / 4) (y / 100) (y / 400) _ _ _ _ _ _ _ (omega arith) (omega arith)
-    (counted 4 y _ (lit< tt) refl)
-    (counted 100 y _ (lit< tt) refl)
-    (counted 400 y _ (lit< tt) refl)
-    (nested (suc y) _ _ _ refl refl refl)
-    ∙ ap (λ (l : ℕ). days-before-year (suc y) + l) (sym (leap-day (leap (suc y))))
+    one-more y (y / 4) (y / 100) (y / 400) _ _ _ _ _ _ _ (omega arith) (omega arith) (counted 4 y (λ t. omega arith) (λ t. omega arith))
+    (counted 100 y (λ t. omega arith) (λ t. omega arith)) (counted 400 y (λ t. omega arith) (λ t. omega arith)) (leap-days (suc y) _ _ _ refl refl refl)
 
 -- the lengths of the months, by whether the year is leap
 abbrev pub lengths-by : Bool → List ℕ
@@ -257,13 +226,7 @@ calendar-parts d t =
 pub calendar-from : (d : Date) → In-calendar d → in-calendar d ≡ true
 unfolding in-calendar
 calendar-from d p =
-    simp (
-      lt-ltb _ _ (p .year-first),
-      le-leb _ _ (p .month-first),
-      le-leb _ _ (p .month-last),
-      le-leb _ _ (p .day-first),
-      le-leb _ _ (p .day-last),
-    )
+    simp (lt-ltb _ _ (p .year-first), le-leb _ _ (p .month-first), le-leb _ _ (p .month-last), le-leb _ _ (p .day-first), le-leb _ _ (p .day-last))
 
 -- "a date that isn't in the calendar" is never said of a day's date
 pub date-of-in-calendar : (n : ℕ) → in-calendar (date-of n) ≡ true
@@ -295,11 +258,7 @@ place-in-year : (y k r : ℕ) → 1 ≤ y → k < length (month-lengths y) → r
     → In-year (days-before-year y + days-in k (month-lengths y) + r) y
 place-in-year zero k r f h s = absurd (not-suc-le-zero f)
 place-in-year (suc y) k r f h s =
-    record {
-      first = f;
-      from = omega arith;
-      to = omega (arith, year-after y, rw (twelve, months-fill) at (place-before (month-lengths (suc y)) k r h s));
-    }
+    record { first = f; from = omega arith; to = omega (arith, year-after y, rw (twelve, months-fill) at (place-before (month-lengths (suc y)) k r h s)) }
 
 days-to-in-year : (d : Date) → In-calendar d → In-year (days-to d) (d .year)
 unfolding days-to

@@ -1,12 +1,12 @@
--- Demand 3, the ceiling: the defined count is at most m x (A x (1 + most + R) + B x (1 + 4 x most)), for any limit `most` on an entry, and so
--- for converting at its own. The cap of a code is the sum of its steps' caps; a run is bounded by data, a case for each of its forms.
--- Assumes nothing.
+-- Demand 3, the ceiling: the defined count is at most the number of elements times what the string's steps can cost, for any limit `most` on
+-- an entry, and so for converting at its own; a run is bounded by data, a case for each of its forms. That ceiling is document 01's,
+-- m x (A x (1,025 + R) + B x 4,097). Assumes nothing.
 use Prim.Native.Nat.{ℕ, _+_, _*_, _≤_}
-use mathlib.Core.Path.{_≡_, refl, _∙_}
+use mathlib.Core.Path.{_≡_, refl, ap}
 use mathlib.Core.Bool.{Bool, true, false}
 use mathlib.Core.List.{List, [], _∷_}
 use native.Mathlib.Omega.{arith}
-use native.Mathlib.Nat.{le-trans, le-of-eq, suc-mul, zero-mul, one-mul, add-mul, add-zero}
+use native.Mathlib.Nat.{le-trans, suc-mul, zero-mul, one-mul, add-mul}
 use lib.ListN.{length}
 use lib.Dec.{leb, lit≤}
 use borrow.Author.Tests.{leb-true}
@@ -16,10 +16,12 @@ use Rattle.paper.specs.Refusals.{Res, given, refuse_unless_, over-long-e
 use Rattle.paper.specs.Codes.{Conversion, Elm, Code}
 use Rattle.paper.specs.Checking.{
   shape,
-  counts,
-  elms-count,
-  code-count,
-  codes-count,
+  Counts,
+  together,
+  step-counts,
+  elms-counts,
+  code-counts,
+  codes-counts,
   attribute-loads,
   other-steps,
   Checked,
@@ -27,12 +29,48 @@ use Rattle.paper.specs.Checking.{
   faulty,
   check,
   report,
+  codes-of,
   checked-codes,
 }
-use Rattle.paper.specs.Steps.{Run, done, stop, step, onward, stepped, Setting, top-entry, conversion-step, elms-run, code-run, codes-run, element-run}
-use Rattle.paper.specs.Converting.{Element, elements, elements-run, count, unbudgeted, lawful-place, lawful-code, ready, run, finished, carried-out, convert, convert-freely, ceiling-over, ceiling}
+use Rattle.paper.specs.Steps.{
+  Run,
+  done,
+  stop,
+  step,
+  onward,
+  stepped,
+  Setting,
+  step-ceiling,
+  top-entry,
+  conversion-step,
+  elms-run,
+  code-run,
+  codes-run,
+  element-run,
+}
+use Rattle.paper.specs.Converting.{
+  Element,
+  elements,
+  elements-run,
+  count,
+  unbudgeted,
+  lawful-place,
+  lawful-code,
+  ready,
+  run,
+  finished,
+  carried-out,
+  convert,
+  convert-freely,
+  elms-ceiling,
+  code-ceiling,
+  codes-ceiling,
+  ceiling-over,
+  ceiling,
+  counted-ceiling,
+}
 use Rattle.paper.proofs.Predicates.{Holds, holds, refuses, holds-then, holds-after, holds-next, All, none-of, and-all}
-use Rattle.paper.proofs.Entries.{Fit, limited-fits, cap, steps-within, price-capped}
+use Rattle.paper.proofs.Entries.{Fit, limited-fits, steps-within, price-capped}
 use Rattle.paper.proofs.Budget.{budgeted-at-most}
 
 -- A run that costs at most n and, where it is done, answers with P.
@@ -69,39 +107,8 @@ bounded-stepped c m k (holds {a = x} p) f =
     goes fits (f x p .1)
 bounded-stepped c m k refuses f = stops
 
--- Over the limit on an entry and the record's length.
+-- Over the limit on an entry and the record.
 module _ (most : ℕ) (item : Bytes) where
-  -- the sum of the steps' caps: loads, and the others
-  unfoldable pub caps : ℕ → ℕ → ℕ
-  caps loads others = loads * (1 + most + length item) + others * (1 + 4 * most)
-
-  caps-add : (a b c d : ℕ) → caps a b + caps c d ≡ caps (a + c) (b + d)
-  unfolding caps
-  caps-add a b c d = omega (arith, add-mul a c (1 + most + length item), add-mul b d (1 + 4 * most))
-
-  -- one step, a load or not
-  caps-one : (loads : Bool) → cap most (length item) loads ≡ caps (counts true loads) (counts false loads)
-  unfolding cap caps
-  caps-one true = omega (arith, one-mul (1 + most + length item), zero-mul (1 + 4 * most))
-  caps-one false = omega (arith, zero-mul (1 + most + length item), one-mul (1 + 4 * most))
-
-  unfoldable pub elms-cap : List Elm → ℕ
-  elms-cap es = caps (elms-count true es) (elms-count false es)
-
-  elms-cap-more : (e : Elm) (es : List Elm) → cap most (length item) (shape e .loads) + elms-cap es ≡ elms-cap (e ∷ es)
-  unfolding elms-cap elms-count
-  elms-cap-more e es = rw caps-one (caps-add _ _ _ _)
-
-  unfoldable pub code-cap : Code → ℕ
-  code-cap c = caps (code-count true c) (code-count false c)
-
-  unfoldable pub codes-cap : List Code → ℕ
-  codes-cap cs = caps (codes-count true cs) (codes-count false cs)
-
-  codes-cap-more : (c : Code) (cs : List Code) → code-cap c + codes-cap cs ≡ codes-cap (c ∷ cs)
-  unfolding code-cap codes-cap codes-count
-  codes-cap-more c cs = caps-add _ _ _ _
-
   top-bounded : (stack : List Bytes) → All (Fit most) stack → Bounded (Fit most) 0 (top-entry stack)
   unfolding top-entry
   top-bounded [] fits = stops
@@ -110,19 +117,18 @@ module _ (most : ℕ) (item : Bytes) where
   abbrev seen : ℕ → ℕ → Bytes → Setting
   seen v s e = record { item = item; v = v; s = s; previous = e }
 
-  -- One F code from any stack within the limit.
+  -- Elms from any stack within the limit.
   elms-bounded : (v s : ℕ) (e : Bytes) (es : List Elm) (stack : List Bytes) → All (Fit most) stack
-      → Bounded (Fit most) (elms-cap es) (elms-run most (seen v s e) es stack)
-  unfolding elms-run
-  elms-bounded v s e [] stack fits = wider (omega arith) (top-bounded stack fits)
+      → Bounded (All (Fit most)) (elms-ceiling most (length item) es) (elms-run most (seen v s e) es stack)
+  unfolding elms-run elms-ceiling
+  elms-bounded v s e [] stack fits = ends fits
   elms-bounded v s e (m ∷ es) stack fits =
-      wider (le-of-eq (elms-cap-more m es))
-      (bounded-stepped (cap most (length item) (shape m .loads)) (elms-cap es) _
+      bounded-stepped (step-ceiling most (length item) (shape m .loads)) (elms-ceiling most (length item) es) _
       (steps-within most (seen v s e) m stack fits)
-      (λ x p. (p .capped, elms-bounded v s e es (x .1) (p .fit))))
+      (λ x p. (p .capped, elms-bounded v s e es (x .1) (p .fit)))
 
   conversion-within : (v s : ℕ) (k : Conversion) (e : Bytes) → Fit most e
-      → Holds (λ x. (x .0 ≤ cap most (length item) false) × Fit most (x .1))
+      → Holds (λ x. (x .0 ≤ step-ceiling most (length item) false) × Fit most (x .1))
       (conversion-step most (seen v s e) k)
   unfolding conversion-step
   conversion-within v s k e fit =
@@ -132,44 +138,39 @@ module _ (most : ℕ) (item : Bytes) where
 
   -- One code of an element within the limit.
   code-bounded : (v s : ℕ) (c : Code) (e : Bytes) → Fit most e
-      → Bounded (Fit most) (code-cap c) (code-run most (seen v s e) c)
-  unfolding code-run code-cap code-count elms-cap
-  code-bounded v s (Code.function es) e fit = elms-bounded v s e es [] none-of
+      → Bounded (Fit most) (code-ceiling most (length item) c) (code-run most (seen v s e) c)
+  unfolding code-run code-ceiling
+  code-bounded v s (Code.function es) e fit = wider (omega arith) (bounded-onward 0 (elms-bounded v s e es [] none-of) top-bounded)
   code-bounded v s (Code.single k) e fit =
-      wider (le-of-eq (add-zero _ ∙ caps-one false))
-      (bounded-stepped (cap most (length item) false) 0 done (conversion-within v s k e fit) (λ x p. (p .0, ends (p .1))))
+      wider (omega arith) (bounded-stepped (step-ceiling most (length item) false) 0 done (conversion-within v s k e fit) (λ x p. (p .0, ends (p .1))))
 
-  codes-bounded : (v s : ℕ) (cs : List Code) (e : Bytes) → Fit most e → Bounded (Fit most) (codes-cap cs) (codes-run most item v s cs e)
-  unfolding codes-run
+  codes-bounded : (v s : ℕ) (cs : List Code) (e : Bytes) → Fit most e
+      → Bounded (Fit most) (codes-ceiling most (length item) cs) (codes-run most item v s cs e)
+  unfolding codes-run codes-ceiling
   codes-bounded v s [] e fit = ends fit
   codes-bounded v s (c ∷ cs) e fit =
-      wider (le-of-eq (codes-cap-more c cs))
-      (bounded-onward (codes-cap cs) (code-bounded v s c e fit) (λ r fit′. codes-bounded v s cs r fit′))
+      bounded-onward (codes-ceiling most (length item) cs) (code-bounded v s c e fit) (λ r fit′. codes-bounded v s cs r fit′)
 
   within-or-not : (v s : ℕ) (cs : List Code) (e : Bytes) (t : Bool) → leb (length e) most ≡ t
-      → Bounded (Fit most) (codes-cap cs) (if t then codes-run most item v s cs e else stop over-long-entry)
+      → Bounded (Fit most) (codes-ceiling most (length item) cs) (if t then codes-run most item v s cs e else stop over-long-entry)
   within-or-not v s cs e true q = codes-bounded v s cs e (leb-true _ _ q)
   within-or-not v s cs e false q = stops
 
-  element-bounded : (v s : ℕ) (cs : List Code) (e : Bytes) → Bounded (Fit most) (codes-cap cs) (element-run most item v s cs e)
-  unfolding element-run
-  element-bounded v s cs e = within-or-not v s cs e (leb (length e) most) refl
-
   -- All elements of an address.
   elements-bounded : (cs : List Code) (es : List Element)
-      → Bounded (λ _. Unit {0}) (length es * codes-cap cs) (elements-run most item cs es)
-  unfolding elements-run
+      → Bounded (λ _. Unit {0}) (length es * codes-ceiling most (length item) cs) (elements-run most item cs es)
+  unfolding elements-run element-run
   elements-bounded cs [] = ends tt
   elements-bounded cs (e ∷ es) =
       wider (rw suc-mul (omega arith))
-      (bounded-onward (length es * codes-cap cs + 0) (element-bounded (e .v) (e .s) cs (e .text))
+      (bounded-onward (length es * codes-ceiling most (length item) cs + 0)
+      (within-or-not (e .v) (e .s) cs (e .text) (leb (length (e .text)) most) refl)
       (λ r fit. bounded-onward 0 (elements-bounded cs es) (λ rest t. ends tt)))
 
 -- The defined count of a run of any codes, for any limit on an entry.
 pub run-within-ceiling : (most : ℕ) (item : Bytes) (cs : List Code) (es : List Element)
-    → count (elements-run most item cs es)
-    ≤ ceiling-over most (attribute-loads cs) (other-steps cs) (length item) (length es)
-unfolding ceiling-over attribute-loads other-steps caps codes-cap
+    → count (elements-run most item cs es) ≤ ceiling-over most (length item) cs (length es)
+unfolding ceiling-over
 run-within-ceiling most item cs es = bounded-count (elements-bounded most item cs es)
 
 -- the codes that converting runs are those that checking accepted
@@ -182,30 +183,69 @@ pub ready-accepted : (item string : Bytes) (a v s scratch : ℕ) → Holds (λ c
 unfolding ready lawful-code
 ready-accepted item string a v s scratch =
     holds-next (lawful-place item a v s)
-    (λ _ _. holds-after (checked-codes (check string)) (λ cs e. holds-next (refuse short-scratch unless leb scratch-least scratch) (λ _ _. holds (codes-accepted (check string) cs e))))
+    (λ _ _. holds-after (checked-codes (check string))
+    (λ cs e. holds-next (refuse short-scratch unless leb scratch-least scratch) (λ _ _. holds (codes-accepted (check string) cs e))))
 
 carried-within : (item string : Bytes) (a v s room : ℕ) {readied : Res (List Code)} → Holds (λ cs. check string ≡ accepted cs) readied
-    → carried-out unbudgeted item a v s room readied .steps
-    ≤ ceiling (report (check string) .loads) (report (check string) .others) (length item) (length (elements item a v s))
-unfolding carried-out finished unbudgeted run ceiling report
+    → carried-out unbudgeted item a v s room readied .steps ≤ ceiling (length item) (codes-of (check string)) (length (elements item a v s))
+unfolding carried-out finished unbudgeted run ceiling
 carried-within item string a v s room refuses = omega arith
 carried-within item string a v s room (holds {a = cs} e) = rw e (run-within-ceiling entry-most item cs (elements item a v s))
 
--- The count is never above a ceiling worked out beforehand: from the numbers A and B that checking the string gives.
+-- The count is never above a ceiling worked out beforehand: the elements times what the string's steps can cost.
 pub count-within-ceiling : (item string : Bytes) (a v s room scratch : ℕ)
-    → convert-freely item string a v s room scratch .steps
-    ≤ ceiling (report (check string) .loads) (report (check string) .others) (length item) (length (elements item a v s))
+    → convert-freely item string a v s room scratch .steps ≤ ceiling (length item) (codes-of (check string)) (length (elements item a v s))
 unfolding convert-freely
 count-within-ceiling item string a v s room scratch = carried-within item string a v s room (ready-accepted item string a v s scratch)
 
 -- and so with any budget, whatever comes of it
 pub steps-within-ceiling : (item string : Bytes) (a v s budget room scratch : ℕ)
-    → convert item string a v s budget room scratch .steps
-    ≤ ceiling (report (check string) .loads) (report (check string) .others) (length item) (length (elements item a v s))
+    → convert item string a v s budget room scratch .steps ≤ ceiling (length item) (codes-of (check string)) (length (elements item a v s))
 steps-within-ceiling item string a v s budget room scratch =
     le-trans (budgeted-at-most item string a v s budget room scratch) (count-within-ceiling item string a v s room scratch)
 
--- The limit of 1,024 put in: m x (A x (1,025 + R) + B x 4,097).
-pub ceiling-read : (loads others length m : ℕ) → ceiling loads others length m ≡ m * (loads * (1_025 + length) + others * 4_097)
-unfolding ceiling ceiling-over entry-most
-ceiling-read loads others length m = refl
+-- The sum over steps by their counts: "A x (1,025 + R) + B x 4,097", for any limit on an entry.
+module _ (most size : ℕ) where
+  unfoldable pub counted-steps : Counts → ℕ
+  counted-steps k = k .loads * (1 + most + size) + k .others * (1 + 4 * most)
+
+  steps-together : (x y : Counts) → counted-steps x + counted-steps y ≡ counted-steps (together x y)
+  unfolding counted-steps together
+  steps-together x y = omega (arith, add-mul (x .loads) (y .loads) (1 + most + size), add-mul (x .others) (y .others) (1 + 4 * most))
+
+  one-step : (loads : Bool) → step-ceiling most size loads ≡ counted-steps (step-counts loads)
+  unfolding step-ceiling counted-steps step-counts
+  one-step true = omega (arith, one-mul (1 + most + size), zero-mul (1 + 4 * most))
+  one-step false = omega (arith, zero-mul (1 + most + size), one-mul (1 + 4 * most))
+
+  elms-counted : (es : List Elm) → elms-ceiling most size es ≡ counted-steps (elms-counts es)
+  unfolding elms-ceiling elms-counts counted-steps
+  elms-counted [] = omega (arith, zero-mul (1 + most + size), zero-mul (1 + 4 * most))
+  elms-counted (e ∷ es) = rw (one-step (shape e .loads), elms-counted es) (steps-together _ _)
+
+  code-counted : (c : Code) → code-ceiling most size c ≡ counted-steps (code-counts c)
+  unfolding code-ceiling code-counts
+  code-counted (Code.function es) = elms-counted es
+  code-counted (Code.single k) = one-step false
+
+  -- The sum over a string's steps is A x (1 + most + R) + B x (1 + 4 x most), whatever the limit.
+  pub codes-counted : (cs : List Code) → codes-ceiling most size cs ≡ counted-steps (codes-counts cs)
+  unfolding codes-ceiling codes-counts counted-steps
+  codes-counted [] = omega (arith, zero-mul (1 + most + size), zero-mul (1 + 4 * most))
+  codes-counted (c ∷ cs) = rw (code-counted c, codes-counted cs) (steps-together _ _)
+
+-- Document 01's form: "m x (A x (1,025 + R) + B x 4,097)".
+pub ceiling-counted : (size : ℕ) (cs : List Code) (m : ℕ) → ceiling size cs m ≡ counted-ceiling (attribute-loads cs) (other-steps cs) size m
+unfolding ceiling ceiling-over counted-ceiling attribute-loads other-steps counted-steps
+ceiling-counted size cs m = ap (λ n. m * n) (codes-counted entry-most size cs)
+
+-- the limit of 1,024 put in
+pub ceiling-read : (loads others size m : ℕ) → counted-ceiling loads others size m ≡ m * (loads * (1_025 + size) + others * 4_097)
+unfolding counted-ceiling entry-most
+ceiling-read loads others size m = refl
+
+-- from the numbers A and B that checking reports
+pub ceiling-reported : (size m : ℕ) (c : Checked) → ceiling size (codes-of c) m ≡ counted-ceiling (report c .loads) (report c .others) size m
+unfolding report attribute-loads other-steps codes-counts
+ceiling-reported size m (accepted cs) = ceiling-counted size cs m
+ceiling-reported size m (faulty n k) = ceiling-counted size [] m

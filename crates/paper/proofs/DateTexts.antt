@@ -17,14 +17,7 @@ use Rattle.paper.specs.Grammar.{this, numeral, more-digits}
 use Rattle.paper.specs.Dates.{Date, month-names, date-of, date-text, year-text, day-zero}
 use Rattle.paper.specs.TypedDates.{typed-pair, typed-digit, typed-year, typed-month, typed-letter, month-called, typed-form, typed}
 use Rattle.paper.proofs.Numerals.{digit-byte}
-use Rattle.paper.proofs.Calendar.{
-  In-calendar,
-  calendar-parts,
-  month-most,
-  date-of-in-calendar,
-  days-to-date-of,
-  year-of-date,
-}
+use Rattle.paper.proofs.Calendar.{In-calendar, calendar-parts, month-most, date-of-in-calendar, days-to-date-of, year-of-date}
 
 -- a digit's byte, and what it stands for
 abbrev digit : ℕ → ℕ
@@ -113,8 +106,4 @@ pub read-back : (n : ℕ) (s : Option ℕ) → n ≤ 3_652_058
     → typed 4 s (date-text 4 s (date-of n)) ≡ given (plus (natural n) (signed true day-zero))
 unfolding typed
 read-back n s h =
-    rw (
-      form-read s (date-of n) (calendar-parts (date-of n) (date-of-in-calendar n)) (year-of-date n h),
-      date-of-in-calendar n,
-      days-to-date-of n,
-    )
+    rw (form-read s (date-of n) (calendar-parts (date-of n) (date-of-in-calendar n)) (year-of-date n h), date-of-in-calendar n, days-to-date-of n)

@@ -1,4 +1,4 @@
--- Of one F elm, for any limit on an entry: it puts as many entries as its shape says, none over the limit, and so its cost has a cap.
+-- Of one F elm, for any limit on an entry: it puts as many entries as its shape says, none over the limit, and so its cost is at most its ceiling.
 -- The check of the stack, the ceiling and the machine go by these. Assumes nothing.
 use Prim.Native.Nat.{ℕ, zero, suc, _+_, _-_, _*_, _≤_}
 use mathlib.Core.Path.{_≡_, refl, sym}
@@ -13,7 +13,7 @@ use Rattle.paper.specs.Bytes.{Bytes, if_then_else_}
 use Rattle.paper.specs.Refusals.{Res, given, refused, _>>_, refuse_unless_, over-long-entry}
 use Rattle.paper.specs.Codes.{Elm, Operand}
 use Rattle.paper.specs.Checking.{shape, stacked}
-use Rattle.paper.specs.Steps.{Setting, on-one, on-two, on-three, bytes-in, price, limited, one-entry, elm-puts, elm-step}
+use Rattle.paper.specs.Steps.{Setting, on-one, on-two, on-three, bytes-in, price, step-ceiling, limited, one-entry, elm-puts, elm-step}
 use Rattle.paper.proofs.Predicates.{Holds, holds, refuses, holds-then, holds-next, All, none-of, and-all, all-append}
 
 module _ (most : ℕ) where
@@ -85,10 +85,6 @@ module _ (most : ℕ) where
   bytes-in-append [] ys = sym (zero-add _)
   bytes-in-append (x ∷ xs) ys = rw (bytes-in-append xs ys) (sym (add-assoc _ _ _))
 
-  -- the cap of a step: "m x (A x (1,025 + R) + B x 4,097)" for one element and one step
-  unfoldable pub cap : ℕ → Bool → ℕ
-  cap record-length loads = if loads then 1 + most + record-length else 1 + 4 * most
-
   -- entries counted by a cost: those put by a load, those taken and put by any other step
   abbrev pub counted : Bool → ℕ → ℕ → ℕ
   counted loads takes puts = if loads then puts else takes + puts
@@ -110,15 +106,15 @@ module _ (most : ℕ) where
 
   pub price-capped : (item : Bytes) (loads : Bool) (takes puts : ℕ) (taken put : List Bytes) → All Fit taken
       → length taken ≤ takes → length put ≡ puts → All Fit put → counted loads takes puts ≤ (if loads then 1 else 4)
-      → price loads item taken put ≤ cap (length item) loads
-  unfolding price cap
+      → price loads item taken put ≤ step-ceiling most (length item) loads
+  unfolding price step-ceiling
   price-capped item true takes puts taken put taken-fits t p fits few = omega (arith, bytes-within 1 fits (omega arith))
   price-capped item false takes puts taken put taken-fits t p fits few =
       omega (arith, bytes-within 4 (all-append taken-fits fits) (rw length-append (omega arith)), bytes-in-append taken put)
 
-  -- What an elm's step comes to: a cost within the cap, and a stack of entries within the limit, as many as the check counts.
+  -- What an elm's step comes to: a cost within the most that it can be, and a stack of entries within the limit, as many as the check counts.
   pub record Stepped (item : Bytes) (e : Elm) (stack : List Bytes) (r : ℕ × List Bytes) : Type 0 where
-    pub capped : r .0 ≤ cap (length item) (shape e .loads)
+    pub capped : r .0 ≤ step-ceiling most (length item) (shape e .loads)
     pub fit : All Fit (r .1)
     pub deep : length (r .1) ≡ length stack - shape e .takes + shape e .puts
 

@@ -1,6 +1,6 @@
 -- Document 01, "Examples on both sides": the starred examples, as one table under one theorem, by computation.
 -- Below it the easy slips, and what a wrong reading of a rule would get wrong, in the same way. Assumes nothing.
-use Prim.Native.Nat.{ℕ, _+_}
+use Prim.Native.Nat.{ℕ}
 use Prim.Native.String.{String}
 use mathlib.Core.Path.{_≡_, refl}
 use mathlib.Core.List.{List, [], _∷_, _++_, map}
@@ -12,12 +12,12 @@ use Rattle.paper.specs.Sizes.{attribute-mark, value-mark, subvalue-mark,
 use Rattle.paper.specs.Records.{split, join, placed, pieces, nth, path, part-at, whole, id-of, place, lawful-id, lawful-record, lawful-address, reads}
 use Rattle.paper.specs.Numbers.{signed, natural, value, numeric, ranged, number, digits, trimmed, decimal, number-text, negated, plus, times, quotient, remainder, below, bytes-below, compared, holds, binary-gives, substring-gives}
 use Rattle.paper.specs.Grammar.{this, flag, choose, more-digits, numeral, num, quoted, separator, group-after, group-code, extract-from, extract-code, admit-from, length-after, length-code, except-code, character-code, scales, credit-letter, fill-byte, fill-width, fill-part, mask-code, is-separator, date-after, date-code, masking-code, conversion, repeats, attribute-elm, literal-elm, previous-elm, multiply-elm, bracket-elm, converting-elm, operator-elm, elm, parted, elms, function-code, code, read}
-use Rattle.paper.specs.Checking.{shape, stacked, all-stacked, lawful, judged, judged-all, code-texts, check, elms-count, code-count, codes-count, attribute-loads, other-steps, report, checked-codes}
+use Rattle.paper.specs.Checking.{shape, stacked, all-stacked, lawful, judged, judged-all, code-texts, check, together, step-counts, elms-counts, code-counts, codes-counts, attribute-loads, other-steps, report, codes-of, checked-codes}
 use Rattle.paper.specs.Texts.{raised, lowered, titled, hex-digit, hexed, hex-value, unhexed, plain-gives}
 use Rattle.paper.specs.Masks.{number-gives, rounded, scaled, grouped, integer-text, point-text, digits-text, before-digits, after-digits, masked-text, laid-out, blank-text, number-masked, mask-gives}
 use Rattle.paper.specs.Dates.{leap, month-lengths, month-names, days-before-year, year-of, month-day, date-of, ranged-day, year-text, date-text, date-gives}
-use Rattle.paper.specs.Steps.{onward, stepped, conversion-gives, load-path, operand, bytes-in, price, top-entry, limited, elm-puts, elm-step, conversion-step, elms-run, code-run, codes-run, element-run}
-use Rattle.paper.specs.Converting.{Outcome, subvalues, values, from-one, elements-in, elements-of, elements, elements-run, within-budget, lawful-place, lawful-code, ready, run, fitted, finished, carried-out, convert, ceiling-over, ceiling}
+use Rattle.paper.specs.Steps.{onward, stepped, conversion-gives, load-path, operand, bytes-in, price, step-ceiling, top-entry, limited, elm-puts, elm-step, conversion-step, elms-run, code-run, codes-run, element-run}
+use Rattle.paper.specs.Converting.{Outcome, subvalues, values, from-one, elements-in, elements-of, elements, elements-run, within-budget, lawful-place, lawful-code, ready, run, fitted, finished, carried-out, convert, elms-ceiling, code-ceiling, codes-ceiling, ceiling-over, ceiling, counted-ceiling}
 use Rattle.paper.specs.Program.{program-budget, drawn, printed}
 
 -- a drawn record: `^` for 254, `]` for 253 and `\` for 252
@@ -26,10 +26,12 @@ marked b =
     if eqb b (ch "^") then attribute-mark
     else (if eqb b (ch "]") then value-mark else (if eqb b (ch "\\") then subvalue-mark else b))
 
--- What an example calls: converting a record at an address under a budget, or its ceiling; a code on an element; a check.
+-- What an example calls: converting a record at an address under a budget; its ceiling, the sum over steps, and from a check's A and B;
+-- a code on an element; a check.
 data Example : Type 0 where
   converting : String → String → ℕ → ℕ → ℕ → ℕ → Example
   at-most : String → String → ℕ → ℕ → ℕ → Example
+  from-counts : String → String → ℕ → ℕ → ℕ → Example
   giving : String → String → Example
   checking : String → Example
 
@@ -41,13 +43,16 @@ with-steps o = decimal (refusal-of (o .answer)) ++ ch " " ∷ decimal (o .steps)
 
 -- What it tells: the refusal, the steps where they are asked for, and the answer, marks drawn; a ceiling; a check's refusal.
 told : Example → Bytes
-unfolding bytes is-digit is-upper is-lower is-letter digit-value any only same-bytes is-mark is-outer-mark is-inner-mark entry-most scratch-least split join placed pieces nth path part-at whole id-of place lawful-id lawful-record lawful-address reads signed natural value numeric ranged number digits trimmed decimal number-text negated plus times quotient remainder below bytes-below compared holds binary-gives substring-gives this flag choose more-digits numeral num quoted separator group-after group-code extract-from extract-code admit-from length-after length-code except-code character-code scales credit-letter fill-byte fill-width fill-part mask-code is-separator date-after date-code masking-code conversion repeats attribute-elm literal-elm previous-elm multiply-elm bracket-elm converting-elm operator-elm elm parted elms function-code code read shape stacked all-stacked lawful judged judged-all code-texts check elms-count code-count codes-count attribute-loads other-steps report checked-codes raised lowered titled hex-digit hexed hex-value unhexed plain-gives number-gives rounded scaled grouped integer-text point-text digits-text before-digits after-digits masked-text laid-out blank-text number-masked mask-gives leap month-lengths month-names days-before-year year-of month-day date-of ranged-day year-text date-text date-gives onward stepped conversion-gives load-path operand bytes-in price top-entry limited elm-puts elm-step conversion-step elms-run code-run codes-run element-run subvalues values from-one elements-in elements-of elements elements-run within-budget lawful-place lawful-code ready run fitted finished carried-out convert ceiling-over ceiling drawn printed marked
+unfolding bytes is-digit is-upper is-lower is-letter digit-value any only same-bytes is-mark is-outer-mark is-inner-mark entry-most scratch-least split join placed pieces nth path part-at whole id-of place lawful-id lawful-record lawful-address reads signed natural value numeric ranged number digits trimmed decimal number-text negated plus times quotient remainder below bytes-below compared holds binary-gives substring-gives this flag choose more-digits numeral num quoted separator group-after group-code extract-from extract-code admit-from length-after length-code except-code character-code scales credit-letter fill-byte fill-width fill-part mask-code is-separator date-after date-code masking-code conversion repeats attribute-elm literal-elm previous-elm multiply-elm bracket-elm converting-elm operator-elm elm parted elms function-code code read shape stacked all-stacked lawful judged judged-all code-texts check together step-counts elms-counts code-counts codes-counts attribute-loads other-steps report checked-codes raised lowered titled hex-digit hexed hex-value unhexed plain-gives number-gives rounded scaled grouped integer-text point-text digits-text before-digits after-digits masked-text laid-out blank-text number-masked mask-gives leap month-lengths month-names days-before-year year-of month-day date-of ranged-day year-text date-text date-gives onward stepped conversion-gives load-path operand bytes-in price step-ceiling top-entry limited elm-puts elm-step conversion-step elms-run code-run codes-run element-run subvalues values from-one elements-in elements-of elements elements-run within-budget lawful-place lawful-code ready run fitted finished carried-out convert elms-ceiling code-ceiling codes-ceiling ceiling-over ceiling counted-ceiling drawn printed marked
 told (converting item code a v s budget) =
     with-steps (convert (map marked (bytes item)) (bytes code) a v s budget record-most scratch-least)
 told (at-most item code a v s) =
+    decimal
+    (ceiling (length (bytes item)) (codes-of (check (bytes code))) (length (elements (map marked (bytes item)) a v s)))
+told (from-counts item code a v s) =
     let r = report (check (bytes code)) in
     decimal
-    (ceiling (r .loads) (r .others) (length (bytes item)) (length (elements (map marked (bytes item)) a v s)))
+    (counted-ceiling (r .loads) (r .others) (length (bytes item)) (length (elements (map marked (bytes item)) a v s)))
 told (giving code element) =
     without-steps
     (convert (map marked (bytes "K1^") ++ bytes element) (bytes code) 1 0 0 program-budget record-most scratch-least)
@@ -71,6 +76,7 @@ starred : List Row
 starred =
     row (converting "K1^10]20^3" "F;1;2R;*" 1 0 0 program-budget) "0 62 30]60"
     ∷ row (at-most "K1^10]20^3" "F;1;2R;*" 1 0 0) "12334"
+    ∷ row (from-counts "K1^10]20^3" "F;1;2R;*" 1 0 0) "12334"
     ∷ row (converting "K1^10]20^3" "F;1;2R;*" 1 0 0 61) "15 56 "
     ∷ row (giving "F;'7';'2';-" "") "0 5"
     ∷ row (giving "F;'-7';'2';/" "") "0 -3"

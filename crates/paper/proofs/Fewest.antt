@@ -15,75 +15,14 @@ use borrow.Author.Tests.{eq-eqb, ne-eqb, eqb-false}
 use Rattle.paper.specs.Bytes.{Bytes}
 use Rattle.paper.specs.Sizes.{is-mark}
 use Rattle.paper.specs.Refusals.{given}
-use Rattle.paper.specs.Records.{
-  split,
-  join,
-  Part,
-  Turn,
-  placed,
-  pieces,
-  nth,
-  and-then,
-  part-at,
-  path,
-  whole,
-  place,
-  alter,
-  replaced,
-  replace,
-  contains,
-  apart,
-  reads,
-}
+use Rattle.paper.specs.Records.{split, join, Part, Turn, placed, pieces, nth, and-then, part-at, path, whole, place, alter, replaced, replace}
+use Rattle.paper.specs.Records.{contains, apart, reads}
 use Rattle.paper.proofs.Predicates.{All, none-of, and-all, all-map, all-both}
-use Rattle.paper.proofs.Splitting.{
-  Free,
-  Filled,
-  filled,
-  Told,
-  present,
-  told,
-  told-map,
-  told-then,
-  told-both,
-  split-filled,
-  split-free,
-  join-split,
-  join-next,
-  nth-told,
-  getD-each,
-  alter-filled,
-  alter-length,
-  getD-alter,
-  getD-alter-other,
-  text-of,
-  placed-each,
-  Inside,
-  part,
-  part-at-inside,
-  found-is-own,
-}
-use Rattle.paper.proofs.Replacing.{
-  by,
-  Down,
-  stop,
-  turn,
-  down-each,
-  Ladder,
-  rung,
-  split-replaced,
-  seen,
-  reads-seen,
-  seen-without,
-  Diverge,
-  here,
-  below,
-  apart-below,
-  marks,
-  path-down,
-  is-replaced,
-  new-ladder,
-}
+use Rattle.paper.proofs.Splitting.{Free, Filled, filled, Told, present, told, told-map, told-then, told-both, split-filled, split-free, join-split}
+use Rattle.paper.proofs.Splitting.{join-next, nth-told, getD-each, alter-filled, alter-length, getD-alter, getD-alter-other, text-of, placed-each}
+use Rattle.paper.proofs.Splitting.{Inside, part, part-at-inside, found-is-own}
+use Rattle.paper.proofs.Replacing.{by, Down, stop, turn, down-each, Ladder, rung, split-replaced, seen, reads-seen, seen-without, Diverge, here}
+use Rattle.paper.proofs.Replacing.{below, apart-below, marks, path-down, is-replaced, new-ladder}
 
 -- the second bytes are the first with marks added
 pub data Added : Bytes → Bytes → Type 0 where

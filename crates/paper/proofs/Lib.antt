@@ -2,9 +2,11 @@ pub mod Budget
 pub mod Calendar
 pub mod Ceiling
 pub mod DateTexts
+pub mod Eating
 pub mod Entries
 pub mod Examples
 pub mod Fewest
+pub mod Limits
 pub mod Numbered
 pub mod Numerals
 pub mod Predicates
@@ -15,3 +17,4 @@ pub mod Runs
 pub mod Settled
 pub mod Splitting
 pub mod Stack
+pub mod Truths

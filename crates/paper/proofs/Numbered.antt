@@ -1,7 +1,7 @@
 -- Document 01, "Numbers that refusals carry": every refusal that converting gives carries a number of that table, and after an accepted
 -- check it is never 7. A law for each way of going on, then one for each definition that may refuse and matches on something; the rest is
 -- unfolded. Assumes nothing.
-use Prim.Native.Nat.{ℕ, suc, _+_, _-_, _≤_}
+use Prim.Native.Nat.{ℕ, suc, _+_, _-_, _≤_, _<_}
 use mathlib.Core.Path.{_≡_, refl, ap, subst}
 use mathlib.Core.Bool.{Bool, true, false, not, _&&_}
 use mathlib.Core.Logic.{_≢_}
@@ -10,10 +10,10 @@ use mathlib.Core.Option.{Option, none, some}
 use lib.Dec.{T, leb, eqb}
 use lib.ListN.{length}
 use native.Mathlib.Omega.{arith}
-use borrow.Author.Tests.{le-leb, leb-true, ne-eqb}
+use borrow.Author.Tests.{le-leb, ne-eqb, eqb-false, not-true}
 use Rattle.paper.specs.Bytes.{Bytes, if_then_else_, within}
 use Rattle.paper.specs.Sizes.{code-most, entry-most, stack-most, scratch-least}
-use Rattle.paper.specs.Refusals.{Res, given, refused, _>>=_, _>>_, refuse_unless_, refuse_when_, refusal-of, stack-fault, short-scratch, short-output}
+use Rattle.paper.specs.Refusals.{Res, given, refused, _>>=_, _>>_, refuse_unless_, refuse_when_, refusal-of, stack-fault, short-scratch, short-output, mark-in-element, last-refusal}
 use Rattle.paper.specs.Records.{lawful-id, lawful-record, lawful-address}
 use Rattle.paper.specs.Numbers.{Number, ranged, number, compare-forms, compared, Binary, binary-gives, substring-gives}
 use Rattle.paper.specs.Codes.{Plain, Conversion, Elm, Code}
@@ -24,15 +24,17 @@ use Rattle.paper.specs.Dates.{ranged-day, date-gives}
 use Rattle.paper.specs.Steps.{Run, done, stop, step, onward, stepped, Setting, conversion-gives, top-entry, limited, elm-puts, elm-step, conversion-step, elms-run, code-run, codes-run, element-run}
 use Rattle.paper.specs.Converting.{Element, elements-run, Outcome, within-budget, lawful-place, lawful-code, ready, run, fitted, finished, carried-out, convert}
 use Rattle.paper.proofs.Predicates.{Holds, holds, refuses, holds-then, holds-next, All, none-of, and-all}
+use Rattle.paper.proofs.Truths.{both}
+use Rattle.paper.proofs.Ranges.{within-true}
 use Rattle.paper.proofs.Stack.{Room, Safe, answers, refuses-itself, goes-on, SafeCode, checked-codes-are-safe}
 
 -- the numbers of the table that converting may give: all but 17, which is replacing's
 abbrev table : ℕ → Bool
-table n = within 1 16 n
+table n = within 1 last-refusal n && not (eqb n mark-in-element)
 
 -- the numbers that are tried before the run, but for the scratch's
 abbrev early : ℕ → Bool
-early n = within 1 7 n
+early n = within 1 stack-fault n
 
 -- the numbers that a run's own steps refuse with
 abbrev own : ℕ → Bool
@@ -171,15 +173,20 @@ faults-are-numbered string n k e = go (subst (λ (c : Checked). Numbered early (
     go : {m : ℕ} → Numbered {A = List Code} early (refused m) → m ≢ 0
     go (numbered h) f = rw f at h
 
-bounds : (low high n : ℕ) (t u : Bool) → leb low n ≡ t → leb n high ≡ u → T (t && u) → (low ≤ n) × (n ≤ high)
-bounds low high n true true e f h = (leb-true low n e, leb-true n high f)
-bounds low high n true false e f h = absurd h
-bounds low high n false u e f h = absurd h
+is-true : (t : Bool) → T t → t ≡ true
+is-true true h = refl
+is-true false h = absurd h
 
-in-table : (low high n : ℕ) → 1 ≤ low → high ≤ 16 → T (within low high n) → T (table n)
+in-table : (low high n : ℕ) → 1 ≤ low → high < mark-in-element → T (within low high n) → T (table n)
 in-table low high n l u h =
-    let w = bounds low high n (leb low n) (leb n high) refl refl h in
-    rw (le-leb 1 n (omega arith), le-leb n 16 (omega arith)) tt
+    let w = within-true low high n (is-true _ h) in
+    rw (le-leb 1 n (omega arith), le-leb n last-refusal (omega arith), ne-eqb n mark-in-element (λ e. omega arith)) tt
+
+told-table : (n : ℕ) → T (table n) → (1 ≤ n) × (n ≤ last-refusal) × (n ≢ mark-in-element)
+told-table n h =
+    let p = both (within 1 last-refusal n) (not (eqb n mark-in-element)) (is-true _ h) in
+    let w = within-true 1 last-refusal n (p .0) in
+    (w .0, w .1, eqb-false n mark-in-element (not-true _ (p .1)))
 
 -- a refusal with one of these numbers is one with one of more
 numbered-more : {A : Type 0} {p q : ℕ → Bool} {r : Res A} → ((n : ℕ) → T (p n) → T (q n)) → Numbered p r → Numbered q r
@@ -187,12 +194,17 @@ numbered-more f answered = answered
 numbered-more f (numbered h) = numbered (f _ h)
 
 check-in-table : (string : Bytes) → Numbered table (checked-codes (check string))
-check-in-table string = numbered-more (λ n. in-table 1 7 n (omega arith) (omega arith)) (check-numbered string)
+check-in-table string = numbered-more (λ n. in-table 1 stack-fault n (omega arith) (omega arith)) (check-numbered string)
 
 -- before the run: 1, 2, 3, 4, checking, 8
 ready-numbered : (item string : Bytes) (a v s scratch : ℕ) → Numbered table (ready item string a v s scratch)
 unfolding ready lawful-place lawful-record lawful-id lawful-address lawful-code
 ready-numbered item string a v s scratch = search (tests, check-in-table) depth 10
+
+-- the number of a refusal is one of them
+number-told : {A : Type 0} {p : ℕ → Bool} {r : Res A} → Numbered p r → (n : ℕ) → r ≡ refused n → T (p n)
+number-told answered n e = let z : _≡_ {A = ℕ} 0 1 = cc in absurd (omega arith)
+number-told {p = p} (numbered h) n e = subst (λ (m : ℕ). T (p m)) (ap refusal-of e) h
 
 -- a run that stops only with one of these numbers
 data Stops {A : Type 0} (p : ℕ → Bool) : Run A → Type 0 where
@@ -242,19 +254,10 @@ module _ (most : ℕ) where
       rw (le-leb (shape e .takes) (length stack) (room .enough), le-leb (length stack - shape e .takes + shape e .puts) stack-most (room .not-too-many))
       (numbered-then (puts-own c e stack (room .enough)) (λ put. answered))
 
-  step-stops : (c : Setting) (e : Elm) (es : List Elm) (stack : List Bytes) {n : ℕ} → Numbered own (elm-step most c e stack) → elm-step most c e stack ≡ refused n
-      → Stops own (elms-run most c (e ∷ es) stack)
-  unfolding elms-run stepped
-  step-stops c e es stack t f = stepped-refused (elms-run most c es) t f
-    where
-      stepped-refused : {r : Res (ℕ × List Bytes)} {n : ℕ} (k : List Bytes → Run Bytes) → Numbered own r → r ≡ refused n → Stops own (stepped r k)
-      stepped-refused k answered f = let z : _≡_ {A = ℕ} 0 1 = cc in absurd (omega arith)
-      stepped-refused k (numbered h) f = stops h
-
-  safe-stops : (c : Setting) {es : List Elm} {stack : List Bytes} → Safe most c es stack → Stops own (elms-run most c es stack)
-  unfolding elms-run top-entry stepped
+  safe-stops : (c : Setting) {es : List Elm} {stack : List Bytes} → Safe most c es stack → Stops own (onward (elms-run most c es stack) top-entry)
+  unfolding elms-run top-entry stepped onward
   safe-stops c answers = ends
-  safe-stops c (refuses-itself {e = e} {es = es} {stack = stack} room f) = step-stops c e es stack (step-own c e stack room) f
+  safe-stops c (refuses-itself room f) = rw f (stops (number-told (step-own c _ _ room) _ f))
   safe-stops c (goes-on room f deep rest) = rw f (goes (safe-stops c rest))
 
   codes-stops : (item : Bytes) (v s : ℕ) {cs : List Code} → All (SafeCode most) cs → (e : Bytes) → Stops own (codes-run most item v s cs e)
@@ -299,35 +302,34 @@ ready-safe item string a v s scratch =
     holds-next (lawful-place item a v s)
     (λ u e. holds-then (codes-safe string (check string) refl) (λ cs safes. holds-next (refuse short-scratch unless leb scratch-least scratch) (λ w f. holds safes)))
 
-number-told : {A : Type 0} {p : ℕ → Bool} {r : Res A} → Numbered p r → (n : ℕ) → r ≡ refused n → T (p n)
-number-told answered n e = let z : _≡_ {A = ℕ} 0 1 = cc in absurd (omega arith)
-number-told {p = p} (numbered h) n e = subst (λ (m : ℕ). T (p m)) (ap refusal-of e) h
-
 -- before the run, but for the scratch, whatever follows gives: 1 to 7
 pub early-refusals : {B : Type 0} (item string : Bytes) (a v s : ℕ) (k : List Code → B) (n : ℕ)
-    → (lawful-place item a v s >> (checked-codes (check string) >>= λ cs. given (k cs))) ≡ refused n → (1 ≤ n) × (n ≤ 7)
+    → (lawful-place item a v s >> (checked-codes (check string) >>= λ cs. given (k cs))) ≡ refused n → (1 ≤ n) × (n ≤ stack-fault)
 unfolding lawful-place lawful-record lawful-id lawful-address
 early-refusals item string a v s k n e =
-    bounds 1 7 n _ _ refl refl (number-told {p = early} (search (tests, check-numbered) depth 10) n e)
+    within-true 1 stack-fault n (is-true _ (number-told {p = early} (search (tests, check-numbered) depth 10) n e))
 
 -- Every refusal of converting carries a number of the paper's table; so none is taken for an answer, whose number is 0.
 pub converting-numbered : (item string : Bytes) (a v s budget room scratch : ℕ) (n : ℕ)
-    → convert item string a v s budget room scratch .answer ≡ refused n → (1 ≤ n) × (n ≤ 16)
+    → convert item string a v s budget room scratch .answer ≡ refused n → (1 ≤ n) × (n ≤ last-refusal) × (n ≢ mark-in-element)
 unfolding convert
 converting-numbered item string a v s budget room scratch n e =
-    bounds 1 16 n _ _ refl refl
-    (number-told
+    told-table n
+    (number-told {p = table}
     (carried-numbered (λ n. in-table 9 14 n (omega arith) (omega arith)) tt tt item a v s budget room (ready-numbered item string a v s scratch) (ready-safe item string a v s scratch))
     n
     e)
 
 -- the number that is told of an outcome, 0 for an answer
-pub converting-told : (item string : Bytes) (a v s budget room scratch : ℕ) → refusal-of (convert item string a v s budget room scratch .answer) ≤ 16
+pub converting-told : (item string : Bytes) (a v s budget room scratch : ℕ)
+    → (refusal-of (convert item string a v s budget room scratch .answer) ≤ last-refusal)
+    × (refusal-of (convert item string a v s budget room scratch .answer) ≢ mark-in-element)
 converting-told item string a v s budget room scratch = go (convert item string a v s budget room scratch .answer) refl
   where
-    go : (r : Res Bytes) → convert item string a v s budget room scratch .answer ≡ r → refusal-of r ≤ 16
-    go (given bs) e = omega arith
-    go (refused n) e = converting-numbered item string a v s budget room scratch n e .1
+    go : (r : Res Bytes) → convert item string a v s budget room scratch .answer ≡ r
+        → (refusal-of r ≤ last-refusal) × (refusal-of r ≢ mark-in-element)
+    go (given bs) e = (omega arith, λ f. omega arith)
+    go (refused n) e = let told = converting-numbered item string a v s budget room scratch n e in (told .1, told .2)
 
 -- a number above 0 is told of a refusal alone
 pub told-refused : {A : Type 0} (r : Res A) (n : ℕ) → refusal-of r ≡ suc n → r ≡ refused (suc n)
@@ -339,7 +341,7 @@ abbrev other-than-seven : ℕ → Bool
 other-than-seven n = not (eqb n stack-fault)
 
 own-not-seven : (n : ℕ) → T (own n) → T (other-than-seven n)
-own-not-seven n h = let w = bounds 9 14 n (leb 9 n) (leb n 14) refl refl h in rw (ne-eqb n stack-fault (λ e. omega arith)) tt
+own-not-seven n h = let w = within-true 9 14 n (is-true _ h) in rw (ne-eqb n stack-fault (λ e. omega arith)) tt
 
 accepted-ready : (item string : Bytes) (a v s scratch : ℕ) (cs : List Code) → check string ≡ accepted cs
     → Numbered other-than-seven (ready item string a v s scratch)

@@ -2,23 +2,11 @@
 use mathlib.Core.Path.{_≡_, refl, sym, ap, _∙_}
 use mathlib.Core.Bool.{Bool, true, false}
 use mathlib.Core.List.{[], _∷_, _++_}
-use mathlib.Core.Logic.{_⊎_, inl, inr}
+use mathlib.Core.Logic.{_⊎_, inl, inr, ⊎-elim}
 use mathlib.Core.Option.{none, some}
 use Prim.Native.Nat.{ℕ, zero, suc, _+_, _*_, _/_, _%_, _^_, _≤_, _<_}
-use native.Mathlib.Nat.{
-  zero-add,
-  pow-suc,
-  pow-succ',
-  pow-le-pow-right,
-  div-one,
-  div-div-eq-div-mul,
-  div-eq-of-lt,
-  div-lt-iff-lt-mul,
-  le-div-iff-mul-le,
-  not-suc-le-zero,
-  eq-or-lt-of-le,
-  lt-of-lt-of-le,
-}
+use native.Mathlib.Nat.{zero-add, pow-suc, pow-succ', pow-le-pow-right, div-one, div-div-eq-div-mul, div-eq-of-lt, div-lt-iff-lt-mul, le-div-iff-mul-le}
+use native.Mathlib.Nat.{not-suc-le-zero, eq-or-lt-of-le, lt-of-lt-of-le}
 use native.Mathlib.Omega.{arith}
 use lib.Dec.{eqb}
 use lib.ListN.{length, length-append}
@@ -26,19 +14,8 @@ use borrow.Author.Tests.{eqb-true, le-leb, ne-eqb}
 use Rattle.paper.specs.Bytes.{Bytes, if_then_else_, is-digit, digit-value}
 use Rattle.paper.specs.Sizes.{number-digits, number-most}
 use Rattle.paper.specs.Refusals.{given}
-use Rattle.paper.specs.Numbers.{
-  Number,
-  signed,
-  natural,
-  value,
-  numeric,
-  ranged,
-  number,
-  digits,
-  trimmed,
-  decimal,
-  number-text,
-}
+use Rattle.paper.specs.Numbers.{Number, signed, natural, value, numeric, ranged, number, digits, trimmed, decimal, number-text}
+use Rattle.paper.proofs.Truths.{chosen}
 
 -- a digit's byte
 pub digit-byte : (d : ℕ) → d < 10 → is-digit (48 + d) ≡ true
@@ -75,12 +52,8 @@ pub value-of-trimmed : (ds : Bytes) → value 0 (trimmed ds) ≡ value 0 ds
 unfolding trimmed value is-digit digit-value
 value-of-trimmed [] = refl
 value-of-trimmed (d ∷ []) = refl
-value-of-trimmed (d ∷ e ∷ ds) = go (value-of-trimmed (e ∷ ds)) (eqb d 48) refl
-  where
-    go : value 0 (trimmed (e ∷ ds)) ≡ value 0 (e ∷ ds) → (t : Bool) → eqb d 48 ≡ t
-        → value 0 (if t then trimmed (e ∷ ds) else d ∷ e ∷ ds) ≡ value 0 (d ∷ e ∷ ds)
-    go onward true h = rw (eqb-true d 48 h) onward
-    go onward false h = refl
+value-of-trimmed (d ∷ e ∷ ds) =
+    chosen (λ l. value 0 l ≡ value 0 (d ∷ e ∷ ds)) (eqb d 48) (λ h. rw (eqb-true d 48 h) (value-of-trimmed (e ∷ ds))) (λ h. refl)
 
 pub value-of-decimal : (n : ℕ) → n ≤ number-most → value 0 (decimal n) ≡ some n
 unfolding decimal
@@ -95,12 +68,9 @@ pub length-trimmed : (ds : Bytes) → 1 ≤ length ds → (1 ≤ length (trimmed
 unfolding trimmed
 length-trimmed [] h = omega arith
 length-trimmed (d ∷ []) h = omega arith
-length-trimmed (d ∷ e ∷ ds) h = go (length-trimmed (e ∷ ds) (omega arith)) (eqb d 48)
-  where
-    go : (1 ≤ length (trimmed (e ∷ ds))) × (length (trimmed (e ∷ ds)) ≤ suc (length ds)) → (t : Bool)
-        → (1 ≤ length (if t then trimmed (e ∷ ds) else d ∷ e ∷ ds)) × (length (if t then trimmed (e ∷ ds) else d ∷ e ∷ ds) ≤ suc (suc (length ds)))
-    go onward true = omega arith
-    go onward false = omega arith
+length-trimmed (d ∷ e ∷ ds) h =
+    let shorter = length-trimmed (e ∷ ds) (omega arith) in
+    chosen (λ l. (1 ≤ length l) × (length l ≤ suc (suc (length ds)))) (eqb d 48) {x = trimmed (e ∷ ds)} {y = d ∷ e ∷ ds} (λ _. omega arith) (λ _. omega arith)
 
 pub length-decimal : (n : ℕ) → (1 ≤ length (decimal n)) × (length (decimal n) ≤ number-digits)
 unfolding decimal
@@ -108,12 +78,10 @@ length-decimal n = rw (length-digits 15 n) at (length-trimmed (digits 15 n) (ome
 
 pub length-text : (x : Number) → (1 ≤ length (number-text x)) × (length (number-text x) ≤ number-digits + 1)
 unfolding number-text
-length-text x = go (x .negative)
-  where
-    go : (t : Bool) → (1 ≤ length (if t then 45 ∷ decimal (x .size) else decimal (x .size)))
-        × (length (if t then 45 ∷ decimal (x .size) else decimal (x .size)) ≤ 16)
-    go true = omega (arith, length-decimal (x .size))
-    go false = omega (arith, length-decimal (x .size))
+length-text x =
+    let ds = decimal (x .size) in
+    let size = length-decimal (x .size) in
+    chosen (λ l. (1 ≤ length l) × (length l ≤ number-digits + 1)) (x .negative) {x = 45 ∷ ds} {y = ds} (λ _. omega arith) (λ _. omega arith)
 
 first-digit : (m n d : ℕ) (ds : Bytes) → value m (d ∷ ds) ≡ some n → is-digit d ≡ true
 unfolding value
@@ -140,15 +108,12 @@ numeric-of-minus (d ∷ ds) n l h = rw h refl
 
 pub numeric-of-text : (x : Number) → x .size ≤ number-most → x ≡ signed (x .negative) (x .size) → numeric (number-text x) ≡ some x
 unfolding number-text natural
-numeric-of-text x h canonical = go (x .negative) refl
-  where
-    go : (t : Bool) → x .negative ≡ t → numeric (if t then 45 ∷ decimal (x .size) else decimal (x .size)) ≡ some x
-    go true e =
-        numeric-of-minus (decimal (x .size)) (x .size) (length-decimal (x .size) .0) (value-of-decimal (x .size) h)
-        ∙ ap some (ap (λ (t : Bool). signed t (x .size)) (sym e) ∙ sym canonical)
-    go false e =
-        numeric-of-digits (decimal (x .size)) (x .size) (length-decimal (x .size) .0) (value-of-decimal (x .size) h)
-        ∙ ap (λ (t : Bool). some (record { negative = t; size = x .size })) (sym e)
+numeric-of-text x h canonical =
+    let n = x .size in
+    let some-digit = length-decimal n .0 in
+    chosen (λ l. numeric l ≡ some x) (x .negative)
+    (λ e. numeric-of-minus (decimal n) n some-digit (value-of-decimal n h) ∙ ap some (ap (λ (t : Bool). signed t n) (sym e) ∙ sym canonical))
+    (λ e. numeric-of-digits (decimal n) n some-digit (value-of-decimal n h) ∙ ap (λ (t : Bool). some (record { negative = t; size = n })) (sym e))
 
 pub number-of-text : (x : Number) → x .size ≤ number-most → x ≡ signed (x .negative) (x .size) → number (number-text x) ≡ given x
 unfolding number ranged
@@ -160,7 +125,8 @@ unfolding digits
 digits-front zero n = ap (λ (q : ℕ). (48 + q % 10) ∷ []) (sym (div-one n))
 digits-front (suc k) n =
     ap (λ (ds : Bytes). ds ++ (48 + n % 10) ∷ []) (digits-front k (n / 10))
-    ∙ ap (λ (q : ℕ). (48 + q % 10) ∷ (digits k (n / 10) ++ (48 + n % 10) ∷ [])) (div-div-eq-div-mul n 10 (10 ^ k) ∙ ap (λ (m : ℕ). n / m) (sym (pow-succ' 10 k)))
+    ∙ ap (λ (q : ℕ). (48 + q % 10) ∷ (digits k (n / 10) ++ (48 + n % 10) ∷ []))
+    (div-div-eq-div-mul n 10 (10 ^ k) ∙ ap (λ (m : ℕ). n / m) (sym (pow-succ' 10 k)))
 
 -- a zero in front is dropped, another digit is not
 trimmed-zero : (k n : ℕ) → n < 10 ^ suc k → trimmed (digits (suc (suc k)) n) ≡ trimmed (digits (suc k) n)
@@ -180,14 +146,10 @@ trimmed-whole k n l h =
 -- more digits than the number has
 trimmed-more : (m k n : ℕ) → k ≤ m → n < 10 ^ suc k → trimmed (digits (suc m) n) ≡ trimmed (digits (suc k) n)
 trimmed-more zero k n l h = ap (λ (i : ℕ). trimmed (digits (suc i) n)) (omega arith)
-trimmed-more (suc m) k n l h = go (λ s. trimmed-more m k n s h) (eq-or-lt-of-le l)
-  where
-    go : (k ≤ m → trimmed (digits (suc m) n) ≡ trimmed (digits (suc k) n)) → (k ≡ suc m) ⊎ (k < suc m)
-        → trimmed (digits (suc (suc m)) n) ≡ trimmed (digits (suc k) n)
-    go onward (inl e) = ap (λ (i : ℕ). trimmed (digits (suc i) n)) (sym e)
-    go onward (inr s) =
-        trimmed-zero m n (lt-of-lt-of-le h (pow-le-pow-right {n = 10} (omega arith) {i = suc k} {j = suc m} (omega arith)))
-        ∙ onward (omega arith)
+trimmed-more (suc m) k n l h =
+    ⊎-elim (λ e. ap (λ (i : ℕ). trimmed (digits (suc i) n)) (sym e))
+    (λ s. trimmed-zero m n (lt-of-lt-of-le h (pow-le-pow-right {n = 10} (omega arith) {i = suc k} {j = suc m} (omega arith)))
+    ∙ trimmed-more m k n (omega arith) h) (eq-or-lt-of-le l)
 
 -- as many digits as the number has
 pub decimal-digits : (k n : ℕ) → k < number-digits → n < 10 ^ suc k → (k ≡ 0) ⊎ (10 ^ k ≤ n) → decimal n ≡ digits (suc k) n

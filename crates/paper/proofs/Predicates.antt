@@ -6,7 +6,7 @@ use mathlib.Core.Bool.{Bool, true, false}
 use mathlib.Core.List.{List, [], _∷_, _++_}
 use mathlib.Core.Option.{Option, none, some}
 use Rattle.paper.specs.Bytes.{Bytes, if_then_else_}
-use Rattle.paper.specs.Refusals.{Res, given, refused, _>>=_, _>>_}
+use Rattle.paper.specs.Refusals.{Res, given, refused, _>>=_, _>>_, refuse_unless_}
 use Rattle.paper.specs.Grammar.{Reader, follow, ahead}
 
 -- a refusal, or an answer with P
@@ -16,6 +16,9 @@ pub data Holds {A : Type 0} (P : A → Type 0) : Res A → Type 0 where
 
 pub held : {A : Type 0} {P : A → Type 0} {a : A} → Holds P (given a) → P a
 held (holds p) = p
+
+pub held-by : {A : Type 0} {P : A → Type 0} {r : Res A} {a : A} → Holds P r → r ≡ given a → P a
+held-by h e = held (rw e at h)
 
 pub holds-then : {A B : Type 0} {P : A → Type 0} {Q : B → Type 0} {r : Res A} {k : A → Res B} → Holds P r
     → ((a : A) → P a → Holds Q (k a)) → Holds Q (r >>= k)
@@ -32,9 +35,14 @@ pub holds-next : {A B : Type 0} {Q : B → Type 0} (r : Res A) {q : Res B} → (
 holds-next (given a) f = f a refl
 holds-next (refused n) f = refuses
 
--- nothing read, or something with P
-pub data Reads {A : Type 0} (P : A → Type 0) : Option (A × Bytes) → Type 0 where
-  reads : {r : A × Bytes} → P (r .0) → Reads P (some r)
+-- an answer that a test lets through
+pub holds-unless : {A : Type 0} {P : A → Type 0} (n : ℕ) (t : Bool) (a : A) → (t ≡ true → P a) → Holds P ((refuse n unless t) >> given a)
+holds-unless n true a f = holds (f refl)
+holds-unless n false a f = refuses
+
+-- nothing read, or something with P, and what is left: bytes, or the place where they start
+pub data Reads {A R : Type 0} (P : A → Type 0) : Option (A × R) → Type 0 where
+  reads : {r : A × R} → P (r .0) → Reads P (some r)
   reads-not : Reads P none
 
 pub reads-then : {A B : Type 0} {P : A → Type 0} {Q : B → Type 0} {o : Option (A × Bytes)} {k : A → Reader B} → Reads P o
@@ -47,7 +55,7 @@ pub reads-after : {A B : Type 0} {Q : B → Type 0} (o : Option (A × Bytes)) {k
 reads-after none f = reads-not
 reads-after (some r) f = f (r .0) (r .1)
 
-pub reads-either : {A : Type 0} {P : A → Type 0} (t : Bool) {x y : Option (A × Bytes)} → Reads P x → Reads P y
+pub reads-either : {A R : Type 0} {P : A → Type 0} (t : Bool) {x y : Option (A × R)} → Reads P x → Reads P y
     → Reads P (if t then x else y)
 reads-either true p q = p
 reads-either false p q = q

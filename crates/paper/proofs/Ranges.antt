@@ -1,21 +1,13 @@
 -- A number against two bounds: what the tests of it say. Assumes nothing.
-use mathlib.Core.Path.{_≡_, refl, sym}
-use mathlib.Core.Bool.{Bool, true, false, true≢false, _&&_, and-false}
-use mathlib.Core.Logic.{_⊎_, inl, inr}
+use mathlib.Core.Path.{_≡_}
+use mathlib.Core.Bool.{true, false, and-false}
 use Prim.Native.Nat.{ℕ, suc, _≤_, _<_}
-use native.Mathlib.Numerals.{lt-of-le-of-ne}
 use native.Mathlib.Omega.{arith}
-use lib.Dec.{leb, ltb, eqb}
-use borrow.Author.Tests.{le-leb, lt-leb, leb-true, ltb-true, ltb-false, eqb-true, eqb-false}
+use lib.Dec.{leb, eqb}
+use borrow.Author.Tests.{le-leb, lt-leb, leb-true, eqb-true, eq-eqb}
 use Rattle.paper.specs.Bytes.{within}
-
--- one order or the other
-pub ltb-or : (a b : ℕ) → (a < b) ⊎ (b ≤ a)
-ltb-or a b = go (ltb a b) refl
-  where
-    go : (t : Bool) → ltb a b ≡ t → (a < b) ⊎ (b ≤ a)
-    go true h = inl (ltb-true a b h)
-    go false h = inr (ltb-false a b h)
+use Rattle.paper.proofs.Truths.{both, alike, fails}
+pub use Rattle.paper.proofs.Truths.{ltb-or}
 
 module _ (low high b : ℕ) where
   pub within-yes : low ≤ b → b < suc high → within low high b ≡ true
@@ -28,28 +20,13 @@ module _ (low high b : ℕ) where
   within-above h = rw (lt-leb b high h) (and-false (leb low b))
 
   pub within-true : within low high b ≡ true → (low ≤ b) × (b ≤ high)
-  within-true e = go (leb low b) refl (leb b high) refl e
-    where
-      go : (t : Bool) → leb low b ≡ t → (u : Bool) → leb b high ≡ u → (t && u) ≡ true → (low ≤ b) × (b ≤ high)
-      go true s true t r = (leb-true low b s, leb-true b high t)
-      go true s false t r = absurd (true≢false (sym r))
-      go false s u t r = absurd (true≢false (sym r))
+  within-true e = let p = both (leb low b) (leb b high) e in (leb-true low b (p .0), leb-true b high (p .1))
 
   pub not-within : (low ≤ b → b ≤ high → ⊥) → within low high b ≡ false
-  not-within out = go (within low high b) refl
-    where
-      go : (t : Bool) → within low high b ≡ t → t ≡ false
-      go true e = let w = within-true e in absurd (out (w .0) (w .1))
-      go false e = refl
+  not-within out = fails (within low high b) (λ e. let p = within-true e in out (p .0) (p .1))
 
 -- one number, as a range
 pub within-one : (m b : ℕ) → within m m b ≡ eqb b m
-within-one m b = go (eqb b m) refl
-  where
-    apart : eqb b m ≡ false → (b < m) ⊎ (m ≤ b) → within m m b ≡ false
-    apart e (inl l) = within-below m m b l
-    apart e (inr l) = within-above m m b (lt-of-le-of-ne l (λ z. eqb-false b m e (sym z)))
-
-    go : (t : Bool) → eqb b m ≡ t → within m m b ≡ t
-    go true e = let f = eqb-true b m e in within-yes m m b (omega arith) (omega arith)
-    go false e = apart e (ltb-or b m)
+within-one m b =
+    alike (within m m b) (eqb b m) (λ e. let p = within-true m m b e in eq-eqb b m (omega arith))
+    (λ e. let p = eqb-true b m e in within-yes m m b (omega arith) (omega arith))

@@ -2,9 +2,9 @@
 use Prim.Native.Nat.{ℕ}
 use native.Mathlib.Omega.{arith}
 use mathlib.Core.Path.{_≡_, refl}
-use mathlib.Core.Bool.{Bool, true, false}
 use mathlib.Core.List.{List, [], _∷_}
-use Rattle.paper.specs.Refusals.{Res, given, refused, _>>_, refuse_when_}
+use Rattle.paper.specs.Refusals.{Res, given, refused, _>>_}
+pub use Rattle.paper.proofs.Truths.{when-passed}
 use Rattle.paper.proofs.Predicates.{All, none-of, and-all}
 
 -- the tests, and what is answered where none refuses: what a `do` block of tests computes to
@@ -23,7 +23,3 @@ pub passed : {B : Type 0} (rs : List (Res (Unit {0}))) (k : Res B) {b : B} → t
 passed [] k e = (none-of, e)
 passed (given u ∷ rs) k e = let (hs, h) = passed rs k e in (and-all refl hs, h)
 passed (refused n ∷ rs) k e = absurd (let z : _≡_ {A = ℕ} 0 1 = cc in omega arith)
-
-pub when-passed : (n : ℕ) (t : Bool) → (refuse n when t) ≡ given tt → t ≡ false
-when-passed n true e = cc
-when-passed n false e = refl

@@ -11,72 +11,13 @@ use lib.Dec.{T, eqb, leb}
 use lib.ListN.{length, getD}
 use borrow.Author.Tests.{eq-eqb, ne-eqb}
 use Rattle.paper.specs.Bytes.{Bytes, any}
-use Rattle.paper.specs.Sizes.{
-  segment-mark,
-  attribute-mark,
-  value-mark,
-  subvalue-mark,
-  buffer-mark,
-  is-mark,
-  is-outer-mark,
-  record-most,
-  entry-most,
-}
-use Rattle.paper.specs.Refusals.{
-  Res,
-  given,
-  refuse_unless_,
-  refuse_when_,
-  over-long-record,
-  bad-byte,
-  over-long-entry,
-  mark-in-element,
-  short-output,
-}
-use Rattle.paper.specs.Records.{
-  split,
-  Part,
-  Turn,
-  placed,
-  pieces,
-  nth,
-  and-then,
-  part-at,
-  text-or-empty,
-  path,
-  whole,
-  place,
-  lawful-id,
-  lawful-record,
-  lawful-address,
-  find,
-  extract,
-  alter,
-  replaced,
-  replace,
-  contains,
-  apart,
-  reads,
-}
+use Rattle.paper.specs.Sizes.{segment-mark, attribute-mark, value-mark, subvalue-mark, buffer-mark, is-mark, is-outer-mark, record-most, entry-most}
+use Rattle.paper.specs.Refusals.{Res, given, refuse_unless_, refuse_when_, over-long-record, bad-byte, over-long-entry, mark-in-element, short-output}
+use Rattle.paper.specs.Records.{split, Part, Turn, placed, pieces, nth, and-then, part-at, text-or-empty, path, whole, place, lawful-id}
+use Rattle.paper.specs.Records.{lawful-record, lawful-address, find, extract, alter, replaced, replace, contains, apart, reads}
 use Rattle.paper.proofs.Predicates.{All, none-of, and-all, all-map}
-use Rattle.paper.proofs.Splitting.{
-  Without,
-  Free,
-  any-without,
-  without-any,
-  split-free,
-  split-without,
-  join-without,
-  split-join,
-  getD-each,
-  alter-filled,
-  alter-each,
-  nth-alter,
-  getD-alter,
-  getD-alter-other,
-  text-of,
-  nth-placed,
-}
+use Rattle.paper.proofs.Splitting.{Without, Free, any-without, without-any, split-free, split-without, join-without, split-join, getD-each}
+use Rattle.paper.proofs.Splitting.{alter-filled, alter-each, nth-alter, getD-alter, getD-alter-other, text-of, nth-placed}
 use Rattle.paper.proofs.Refusing.{Passed, pass, passed, when-passed}
 
 abbrev pub by : ℕ → ℕ → Turn
@@ -132,7 +73,7 @@ part-at-replaced (rung f g l) (turn {m = m} {n = n} {ts = ts} d) old q e =
 
 -- Reading elsewhere.
 
--- what the turns read, places left out and missing counted as empty
+-- what the turns read of a record, places left out and missing counted as empty: a law on what may be looked at goes by this
 unfoldable pub seen : List Turn → Bytes → Bytes
 seen [] bs = bs
 seen (t ∷ ts) bs = seen ts (getD (split (t .mark) bs) (t .index) [])
@@ -158,6 +99,7 @@ unfolding part-at seen pieces
 part-seen [] p = refl
 part-seen (t ∷ ts) p = then-seen ts (λ q. part-seen ts q) (t .index) (p .start) (split (t .mark) (p .text))
 
+-- what an address reads is what its turns see, wherever it stands
 pub reads-seen : (item : Bytes) (ts : List Turn) → reads item ts ≡ seen ts item
 unfolding reads whole
 reads-seen item ts = part-seen ts (whole item)

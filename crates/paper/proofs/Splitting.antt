@@ -4,7 +4,7 @@ use Prim.Native.Nat.{ℕ, zero, suc, _+_, _≤_, _<_, max}
 use native.Mathlib.Omega.{arith}
 use mathlib.Core.Path.{_≡_, refl, sym, ap, _∙_, subst}
 use mathlib.Core.Logic.{_≢_}
-use mathlib.Core.Bool.{Bool, true, false, _||_}
+use mathlib.Core.Bool.{Bool, true, false}
 use mathlib.Core.List.{List, [], _∷_, _++_, append-assoc, append-nil}
 use mathlib.Core.Option.{Option, none, some, Option·map, Option·getD}
 use lib.Dec.{eqb}
@@ -12,23 +12,9 @@ use lib.ListN.{length, take, drop, getD, length-append}
 use lib.Seq.{take-append-seam, drop-at}
 use borrow.Author.Tests.{eqb-true, eq-eqb}
 use Rattle.paper.specs.Bytes.{Bytes, any}
+use Rattle.paper.proofs.Truths.{neither}
 use Rattle.paper.proofs.Predicates.{All, none-of, and-all, all-append, all-map}
-use Rattle.paper.specs.Records.{
-  opened,
-  split,
-  join,
-  Part,
-  Turn,
-  placed,
-  pieces,
-  nth,
-  and-then,
-  part-at,
-  path,
-  whole,
-  place,
-  alter,
-}
+use Rattle.paper.specs.Records.{opened, split, join, Part, Turn, placed, pieces, nth, and-then, part-at, path, whole, place, alter}
 
 -- no byte passes the test
 abbrev pub Without : (ℕ → Bool) → Bytes → Type 0
@@ -37,10 +23,6 @@ Without test bs = All (λ b. test b ≡ false) bs
 -- no byte is the mark
 abbrev pub Free : ℕ → Bytes → Type 0
 Free m bs = Without (λ b. eqb b m) bs
-
-neither : (s t : Bool) → (s || t) ≡ false → (s ≡ false) × (t ≡ false)
-neither true t e = (e, cc)
-neither false t e = (refl, e)
 
 pub any-without : (test : ℕ → Bool) (bs : Bytes) → any test bs ≡ false → Without test bs
 unfolding any
@@ -275,12 +257,7 @@ placed-inside m start (p ∷ q ∷ ps) =
   where
     rest : Inside (part start (p ++ m ∷ join m (q ∷ ps))) (part (start + length p + 1) (join m (q ∷ ps)))
     rest =
-        record {
-          before = p ++ m ∷ [];
-          after = [];
-          text-is = simp (append-assoc, append-nil);
-          start-is = simp length-append (omega arith);
-        }
+        record { before = p ++ m ∷ []; after = []; text-is = simp (append-assoc, append-nil); start-is = simp length-append (omega arith) }
 
 pub nth-pieces-inside : (m n : ℕ) (w : Part) → Told (Inside w) (nth n (pieces m w))
 unfolding pieces

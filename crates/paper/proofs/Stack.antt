@@ -45,7 +45,7 @@ stacked-room : (e : Elm) (entries : ℕ) → Holds (After e entries) (stacked e 
 unfolding stacked
 stacked-room e entries = tested e entries _ _ refl refl
 
-puts-one : (e : Elm) → 1 ≤ shape e .puts
+pub puts-one : (e : Elm) → 1 ≤ shape e .puts
 unfolding shape
 puts-one (Elm.push (Operand.attribute n r)) = lit≤ tt
 puts-one (Elm.push (Operand.literal bs)) = lit≤ tt

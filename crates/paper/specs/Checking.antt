@@ -95,30 +95,40 @@ code-texts (b ∷ bs) = split value-mark (b ∷ bs)
 unfoldable pub check : Bytes → Checked
 check string = if leb (length string) code-most then judged-all 1 (code-texts string) else faulty over-long-code 0
 
--- 1 for a step that loads an attribute, or, asked for the others, for one that does not
-abbrev pub counts : Bool → Bool → ℕ
-counts true loads = if loads then 1 else 0
-counts false loads = if loads then 0 else 1
+-- Steps by their kind, "A attribute loads and B other steps": a further kind is a further field.
+pub record Counts : Type 0 where
+  pub loads : ℕ
+  pub others : ℕ
 
-unfoldable pub elms-count : Bool → List Elm → ℕ
-elms-count asked [] = 0
-elms-count asked (e ∷ es) = counts asked (shape e .loads) + elms-count asked es
+abbrev pub counted : ℕ → ℕ → Counts
+counted loads others = record { loads = loads; others = others }
+
+unfoldable pub together : Counts → Counts → Counts
+together x y = counted (x .loads + y .loads) (x .others + y .others)
+
+-- one step, which loads an attribute or not
+unfoldable pub step-counts : Bool → Counts
+step-counts loads = if loads then counted 1 0 else counted 0 1
+
+unfoldable pub elms-counts : List Elm → Counts
+elms-counts [] = counted 0 0
+elms-counts (e ∷ es) = together (step-counts (shape e .loads)) (elms-counts es)
 
 -- "A step is one F elm, or one code other than F."
-unfoldable pub code-count : Bool → Code → ℕ
-code-count asked (Code.function es) = elms-count asked es
-code-count asked (Code.single c) = counts asked false
+unfoldable pub code-counts : Code → Counts
+code-counts (Code.function es) = elms-counts es
+code-counts (Code.single c) = step-counts false
 
-unfoldable pub codes-count : Bool → List Code → ℕ
-codes-count asked [] = 0
-codes-count asked (c ∷ cs) = code-count asked c + codes-count asked cs
+unfoldable pub codes-counts : List Code → Counts
+codes-counts [] = counted 0 0
+codes-counts (c ∷ cs) = together (code-counts c) (codes-counts cs)
 
 -- "A attribute loads and B other steps in the string"
 unfoldable pub attribute-loads : List Code → ℕ
-attribute-loads cs = codes-count true cs
+attribute-loads cs = codes-counts cs .loads
 
 unfoldable pub other-steps : List Code → ℕ
-other-steps cs = codes-count false cs
+other-steps cs = codes-counts cs .others
 
 -- What checking reports. "accepted, it gives A and B"; "A number not given here, by any call, is 0"
 pub record Report : Type 0 where
@@ -130,6 +140,11 @@ pub record Report : Type 0 where
 unfoldable pub report : Checked → Report
 report (accepted cs) = record { refusal = 0; code-number = 0; loads = attribute-loads cs; others = other-steps cs }
 report (faulty n k) = record { refusal = n; code-number = k; loads = 0; others = 0 }
+
+-- the codes of a string that was checked; none where it is faulty
+abbrev pub codes-of : Checked → List Code
+codes-of (accepted cs) = cs
+codes-of (faulty n k) = []
 
 -- the codes, or the refusal alone: what converting passes on
 unfoldable pub checked-codes : Checked → Res (List Code)

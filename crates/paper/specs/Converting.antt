@@ -1,5 +1,6 @@
 -- Document 01, "What each code gives" (the elements of an address) and "Steps" (budget, count, ceiling): converting.
 use Prim.Native.Nat.{ℕ, zero, suc, _+_, _*_}
+use mathlib.Core.Bool.{false}
 use mathlib.Core.List.{List, [], _∷_, _++_}
 use mathlib.Core.Option.{Option, none, some}
 use lib.ListN.{length, replicate}
@@ -7,9 +8,9 @@ use lib.Dec.{leb}
 use Rattle.paper.specs.Bytes.{Bytes, if_then_else_, buffer}
 use Rattle.paper.specs.Sizes.{value-mark, subvalue-mark, entry-most, scratch-least}
 use Rattle.paper.specs.Records.{Part, split, place, lawful-record, lawful-address}
-use Rattle.paper.specs.Codes.{Code}
-use Rattle.paper.specs.Checking.{check, checked-codes}
-use Rattle.paper.specs.Steps.{Run, done, stop, step, onward, element-run}
+use Rattle.paper.specs.Codes.{Elm, Code}
+use Rattle.paper.specs.Checking.{shape, check, checked-codes}
+use Rattle.paper.specs.Steps.{Run, done, stop, step, onward, step-ceiling, element-run}
 use Rattle.paper.specs.Refusals.{Res, given, refused, _>>=_, _>>_, refuse_unless_, answer-of, short-scratch, over-budget, short-output}
 
 -- An element of an address: the mark kept before it (none before the first), its own (v, s), its bytes.
@@ -69,13 +70,17 @@ result (done a) = given a
 result (stop n) = refused n
 result (step cost r) = result r
 
--- What converting comes to: an answer or a refusal, and the steps reported.
-pub record Outcome : Type 0 where
-  pub answer : Res Bytes
+-- What a run comes to: an answer or a refusal, and the steps reported.
+pub record Ending (A : Type 0) : Type 0 where
+  pub answer : Res A
   pub steps : ℕ
 
+-- and what converting comes to
+abbrev pub Outcome : Type 0
+Outcome = Ending Bytes
+
 -- "then 15 if the steps so far plus this cost pass the budget. The count reported is the cost of completed steps"
-unfoldable pub within-budget : ℕ → ℕ → Run Bytes → Outcome
+unfoldable pub within-budget : {A : Type 0} → ℕ → ℕ → Run A → Ending A
 within-budget budget so-far (done a) = record { answer = given a; steps = so-far }
 within-budget budget so-far (stop n) = record { answer = refused n; steps = so-far }
 within-budget budget so-far (step cost r) =
@@ -124,7 +129,7 @@ convert item string a v s budget room scratch =
     carried-out (within-budget budget 0) item a v s room (ready item string a v s scratch)
 
 -- the same with no budget: the run's own result and count
-unfoldable pub unbudgeted : Run Bytes → Outcome
+unfoldable pub unbudgeted : {A : Type 0} → Run A → Ending A
 unbudgeted r = record { answer = result r; steps = count r }
 
 unfoldable pub convert-freely : Bytes → Bytes → ℕ → ℕ → ℕ → ℕ → ℕ → Outcome
@@ -139,9 +144,29 @@ output-after room o = buffer room (answer-of (o .answer))
 unfoldable pub scratch-after : ℕ → Bytes
 scratch-after scratch = replicate scratch 0
 
--- "Ceiling: with A attribute loads and B other steps in the string, record length R and m elements, m x (A x (1,025 + R) + B x 4,097)"
-unfoldable pub ceiling-over : ℕ → ℕ → ℕ → ℕ → ℕ → ℕ
-ceiling-over most loads others length m = m * (loads * (1 + most + length) + others * (1 + 4 * most))
+-- "Ceiling": the most that the steps of codes can cost, where an entry has at most so many bytes and the record this length
+module _ (most size : ℕ) where
+  unfoldable pub elms-ceiling : List Elm → ℕ
+  elms-ceiling [] = 0
+  elms-ceiling (e ∷ es) = step-ceiling most size (shape e .loads) + elms-ceiling es
 
-unfoldable pub ceiling : ℕ → ℕ → ℕ → ℕ → ℕ
-ceiling loads others length m = ceiling-over entry-most loads others length m
+  unfoldable pub code-ceiling : Code → ℕ
+  code-ceiling (Code.function es) = elms-ceiling es
+  code-ceiling (Code.single k) = step-ceiling most size false
+
+  unfoldable pub codes-ceiling : List Code → ℕ
+  codes-ceiling [] = 0
+  codes-ceiling (c ∷ cs) = code-ceiling c + codes-ceiling cs
+
+  -- "m elements, m x (..)"
+  unfoldable pub ceiling-over : List Code → ℕ → ℕ
+  ceiling-over cs m = m * codes-ceiling cs
+
+-- over the string's codes, on a record of this length, with m elements
+unfoldable pub ceiling : ℕ → List Code → ℕ → ℕ
+ceiling size cs m = ceiling-over entry-most size cs m
+
+-- the same from the numbers that checking gives, which proofs/Ceiling proves to be the sum:
+-- "with A attribute loads and B other steps in the string, record length R and m elements, m x (A x (1,025 + R) + B x 4,097)"
+unfoldable pub counted-ceiling : ℕ → ℕ → ℕ → ℕ → ℕ
+counted-ceiling loads others size m = m * (loads * (1 + entry-most + size) + others * (1 + 4 * entry-most))

@@ -57,6 +57,10 @@ short-output = 16
 abbrev pub mark-in-element : ℕ
 mark-in-element = 17
 
+-- the last number of the table
+abbrev pub last-refusal : ℕ
+last-refusal = mark-in-element
+
 -- an answer, or one refusal by its number
 pub data Res (A : Type 0) : Type 0 where
   given : A → Res A

@@ -1,5 +1,5 @@
 -- Document 01, "What each code gives" (F) and "Steps": a step, its cost, and the run of one element.
-use Prim.Native.Nat.{ℕ, zero, suc, _+_}
+use Prim.Native.Nat.{ℕ, zero, suc, _+_, _*_}
 use mathlib.Core.Bool.{Bool, false}
 use mathlib.Core.List.{List, [], _∷_, _++_}
 use lib.ListN.{length, take, drop}
@@ -87,6 +87,10 @@ bytes-in (x ∷ xs) = length x + bytes-in xs
 unfoldable pub price : Bool → Bytes → List Bytes → List Bytes → ℕ
 price loads item taken put = 1 + (if loads then length item else bytes-in taken) + bytes-in put
 
+-- "1,025 + R" and "4,097": the most that a step can cost, where an entry has at most so many bytes and the record this length
+unfoldable pub step-ceiling : ℕ → ℕ → Bool → ℕ
+step-ceiling most size loads = if loads then 1 + most + size else 1 + 4 * most
+
 -- "An F code's answer is the top entry."
 unfoldable pub top-entry : List Bytes → Run Bytes
 top-entry [] = stop stack-fault
@@ -126,13 +130,14 @@ module _ (most : ℕ) where
     put ← limited (conversion-gives k (c .previous))
     given (price false (c .item) (c .previous ∷ []) (put ∷ []), put)
 
-  unfoldable pub elms-run : Setting → List Elm → List Bytes → Run Bytes
-  elms-run c [] stack = top-entry stack
+  -- elms in turn, from a stack to the stack that they leave
+  unfoldable pub elms-run : Setting → List Elm → List Bytes → Run (List Bytes)
+  elms-run c [] stack = done stack
   elms-run c (e ∷ es) stack = stepped (elm-step c e stack) (λ after. elms-run c es after)
 
   -- "F starts with an empty stack."
   unfoldable pub code-run : Setting → Code → Run Bytes
-  code-run c (Code.function es) = elms-run c es []
+  code-run c (Code.function es) = onward (elms-run c es []) top-entry
   code-run c (Code.single k) = stepped (conversion-step c k) done
 
   -- "Each element goes through the codes in order."

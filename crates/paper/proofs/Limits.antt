@@ -1,0 +1,47 @@
+-- What a call answers and a lent buffer holds after it, and the limit on a result: refusal 9, "element, entry or result over 1,024", for any limit.
+-- Assumes nothing.
+use Prim.Native.Nat.{ℕ, _≤_, _<_}
+use mathlib.Core.Path.{_≡_, refl, ap}
+use mathlib.Core.List.{_++_}
+use lib.ListN.{length, drop}
+use borrow.Author.Tests.{le-leb, lt-leb}
+use Rattle.paper.specs.Bytes.{Bytes}
+use Rattle.paper.specs.Sizes.{entry-most}
+use Rattle.paper.specs.Refusals.{Res, given, refused, over-long-entry}
+use Rattle.paper.specs.Answers.{given-of, written}
+use Rattle.paper.specs.Steps.{limited}
+use Rattle.paper.specs.declared.Given.{Given}
+use Rattle.paper.specs.declared.Given.the-variants.{Length, Refused}
+
+-- the code's limit is the definitions'
+pub entry-limit : entry-most ≡ 1_024
+unfolding entry-most
+entry-limit = refl
+
+-- a result within the limit is as it is, one over it is 9, and a refusal stays
+module _ (most : ℕ) {r : Res Bytes} where
+  pub limited-within : {bs : Bytes} → r ≡ given bs → length bs ≤ most → limited most r ≡ given bs
+  unfolding limited
+  limited-within {bs} e h = rw (e, le-leb (length bs) most h)
+
+  pub limited-over : {bs : Bytes} → r ≡ given bs → most < length bs → limited most r ≡ refused over-long-entry
+  unfolding limited
+  limited-over {bs} e h = rw (e, lt-leb (length bs) most h)
+
+  pub limited-refused : {n : ℕ} → r ≡ refused n → limited most r ≡ refused n
+  unfolding limited
+  limited-refused e = rw e
+
+-- what a call answers, and the buffer before and after it
+abbrev pub Answered : Res Bytes → Bytes → Bytes → Given → Type 0
+Answered r held out answer = (answer ≡ given-of r) × (out ≡ written held r)
+
+-- a refusal leaves the buffer as it was; else the bytes stand in front of what it held
+module _ {r : Res Bytes} where
+  pub refuses-with : {held : Bytes} {n : ℕ} → r ≡ refused n → Answered r held held (Refused n)
+  unfolding given-of written
+  refuses-with e = rw e (refl, refl)
+
+  pub gives-bytes : (held bs : Bytes) {out : Bytes} {n : ℕ} → r ≡ given bs → n ≡ length bs → out ≡ bs ++ drop (length bs) held → Answered r held out (Length n)
+  unfolding given-of written
+  gives-bytes held bs e k f = rw e (ap Length k, f)
