@@ -51,25 +51,17 @@ module _ (p : ℕ → Bool) (text : Bytes) (flag : Bool) (i : ℕ) (e : any p te
 -- ---- the first byte within low .. high
 
 module _ (low high : ℕ) (item : Bytes) (to : ℕ) (inside : to ≤ length item) where
-  range-here : (at : ℕ) → at < to → range item at to ≡ getD item at 0 ∷ range item (at + 1) to
-  unfolding range
-  range-here at h =
+  upto-here : (at : ℕ) → at < to → upto low high (range item at to) ≡ (if within low high (getD item at 0) then [] else (getD item at 0 ∷ upto low high (range item (at + 1) to)))
+  unfolding upto range
+  upto-here at h =
       let e : to - at ≡ suc (to - (at + 1)) = omega arith in
-      ap (λ (n : ℕ). take n (drop at item)) e ∙ ap (take (suc (to - (at + 1)))) (next item at (omega arith))
+      ap (λ (n : ℕ). upto low high (take n (drop at item))) e ∙ ap (λ (l : Bytes). upto low high (take (suc (to - (at + 1))) l)) (next item at (omega arith))
 
   pub upto-hit : (at : ℕ) → at < to → within low high (getD item at 0) ≡ true → length (upto low high (range item at to)) ≡ 0
-  unfolding upto
-  upto-hit at h t =
-      ap (λ (l : Bytes). length (upto low high l)) (range-here at h)
-      ∙ ap (λ (t : Bool). length (if t then [] else (getD item at 0 ∷ upto low high (range item (at + 1) to)))) t
+  upto-hit at h t = ap length (rw t at (upto-here at h))
 
   pub upto-more : (at : ℕ) → at < to → within low high (getD item at 0) ≡ false → at + length (upto low high (range item at to)) ≡ at + 1 + length (upto low high (range item (at + 1) to))
-  unfolding upto
-  upto-more at h t =
-      let e : length (upto low high (range item at to)) ≡ suc (length (upto low high (range item (at + 1) to)))
-      = ap (λ (l : Bytes). length (upto low high l)) (range-here at h)
-      ∙ ap (λ (t : Bool). length (if t then [] else (getD item at 0 ∷ upto low high (range item (at + 1) to)))) t in
-      omega arith
+  upto-more at h t = omega (arith, ap length (rw t at (upto-here at h)))
 
   pub upto-none : (at : ℕ) → to ≤ at → length (upto low high (range item at to)) ≡ 0
   unfolding upto range

@@ -4,6 +4,8 @@ use contract.Lifetimes.{Lfts}
 use Rattle.lent.proofs.some_within.Reads as some-within
 use Rattle.lent.proofs.marked.Reads as marked
 use Rattle.lent.proofs.first_within.Reads as first-within
+use Rattle.lent.proofs.far_within.Reads as far-within
+use Rattle.lent.proofs.next_within.Reads as next-within
 use Rattle.lent.proofs.front.Reads as front
 use Rattle.lent.proofs.fill.Reads as fill
 use Rattle.lent.proofs.clear.Reads as clear
@@ -20,6 +22,12 @@ marked-settled κs a r r′ e e′ p q = p ∙ sym q
 
 first-within-settled : (κs : Lfts 1) → (a : _) (r r′ : _) (e e′ : _) → first-within.Post κs a r e → first-within.Post κs a r′ e′ → r ≡ r′
 first-within-settled κs a r r′ e e′ p q = p ∙ sym q
+
+far-within-settled : (κs : Lfts 1) → (a : _) (r r′ : _) (e e′ : _) → far-within.Post κs a r e → far-within.Post κs a r′ e′ → r ≡ r′
+far-within-settled κs a r r′ e e′ p q = p ∙ sym q
+
+next-within-settled : (κs : Lfts 1) → (a : _) (r r′ : _) (e e′ : _) → next-within.Post κs a r e → next-within.Post κs a r′ e′ → r ≡ r′
+next-within-settled κs a r r′ e e′ p q = p ∙ sym q
 
 front-settled : (κs : Lfts 1) → (a : _) (r r′ : _) (e e′ : _) → front.Post κs a r e → front.Post κs a r′ e′ → r .now ≡ r′ .now
 front-settled κs a r r′ e e′ p q = p ∙ sym q

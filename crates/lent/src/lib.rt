@@ -1,4 +1,5 @@
 // The loops on lent bytes that the crates above share: scans for a byte; fill, clear and copy.
+// A scan that may be long goes by blocks, which is compiled to SIMD, and one that is short byte by byte.
 // A scan is stated by a test of the bytes; a writer by one list, `over`: the buffer with some bytes laid over it, every other as it was.
 // Only crates of ours call these; each asks that the bytes it goes over lie within the buffer.
 use paper::Mark;
@@ -8,7 +9,10 @@ ghost use lib.ListN.{length, take, drop, replicate};
 ghost use Rattle.paper.specs.Bytes.{any, within};
 ghost use Rattle.paper.specs.Sizes.{is-mark};
 ghost use Rattle.lent.specs.Over.{over};
-ghost use Rattle.lent.specs.Scan.{range, upto};
+ghost use Rattle.lent.specs.Scan.{first-place};
+
+// As many bytes as are tested in one go where a scan may be long.
+pub const BLOCK: usize = 16;
 
 // Whether a byte within low .. high is there. No early exit and a flag as wide as a byte, so that it is compiled to SIMD.
 pub fn some_within(text: &[u8], low: u8, high: u8) -> bool
@@ -36,7 +40,7 @@ pub fn marked(text: &[u8]) -> bool
 // The first place from `from` up to `to` with a byte within low .. high, or `to`: byte by byte.
 pub fn first_within(text: &[u8], from: usize, to: usize, low: u8, high: u8) -> usize
     requires { ⌜ (from ≤ to) × (to ≤ length (now text)) ⌝ }
-    ensures { λ r. ⌜ r ≡ from + length (upto low high (range (now (text .entry)) from to)) ⌝ }
+    ensures { λ r. ⌜ r ≡ first-place low high (now (text .entry)) from to ⌝ }
 {
     let mut at = from;
     while at < to {
@@ -47,6 +51,63 @@ pub fn first_within(text: &[u8], from: usize, to: usize, low: u8, high: u8) -> u
         at += 1;
     }
     to
+}
+
+// Past the blocks that hold no such byte.
+fn pass_blocks(text: &[u8], from: usize, to: usize, low: u8, high: u8) -> usize
+    requires { ⌜ (from ≤ to) × (to ≤ length (now text)) ⌝ }
+    ensures { λ r. ⌜ r ≤ to ⌝ }
+    ensures { λ r. ⌜ first-place low high (now (text .entry)) from to ≡ first-place low high (now (text .entry)) r to ⌝ }
+{
+    let mut at = from;
+    while BLOCK <= to - at {
+        let next = at + BLOCK;
+        if some_within(&text[at..next], low, high) {
+            return at;
+        }
+        at = next;
+    }
+    at
+}
+
+// The same place: by blocks, and the last bytes one by one.
+pub fn far_within(text: &[u8], from: usize, to: usize, low: u8, high: u8) -> usize
+    requires { ⌜ (from ≤ to) × (to ≤ length (now text)) ⌝ }
+    ensures { λ r. ⌜ r ≡ first-place low high (now (text .entry)) from to ⌝ }
+{
+    let at = pass_blocks(text, from, to, low, high);
+    first_within(text, at, to, low, high)
+}
+
+// At most a block behind `from`.
+fn near(from: usize, to: usize) -> usize
+    requires { ⌜ from ≤ to ⌝ }
+    ensures { λ r. ⌜ (from ≤ r) × (r ≤ to) ⌝ }
+{
+    if to - from < BLOCK {
+        return to;
+    }
+    from + BLOCK
+}
+
+// The same place, where it is most often near: the first bytes are tested one by one, and blocks only behind them.
+pub fn next_within(text: &[u8], from: usize, to: usize, low: u8, high: u8) -> usize
+    requires { ⌜ (from ≤ to) × (to ≤ length (now text)) ⌝ }
+    ensures { λ r. ⌜ r ≡ first-place low high (now (text .entry)) from to ⌝ }
+{
+    if from == to {
+        return to;
+    }
+    let b = text[from];
+    if (low <= b) & (b <= high) {
+        return from;
+    }
+    let end = near(from, to);
+    let at = first_within(text, from, end, low, high);
+    if at < end {
+        return at;
+    }
+    far_within(text, end, to, low, high)
 }
 
 // The first n bytes, or all where there are fewer.

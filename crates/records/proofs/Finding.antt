@@ -1,26 +1,21 @@
 -- Finding behind its tests, and the part that is handed back.
 use mathlib.Core.Path.{_≡_, refl, sym, ap}
-use mathlib.Core.Bool.{Bool, true, false}
 use mathlib.Core.List.{[], _∷_}
 use mathlib.Core.Logic.{⊎-elim}
 use mathlib.Core.Option.{Option, none, some}
 use Prim.Native.Nat.{ℕ, _+_, _-_, _≤_}
 use native.Mathlib.Omega.{arith}
-use lib.ListN.{length, take, drop, length-drop}
-use lib.Seq.{length-take-le}
+use lib.ListN.{length, take, drop}
 use types.Run.{OneOf}
 use denote.Enum.Declared.{tagOf}
-use Rattle.paper.specs.Bytes.{Bytes, if_then_else_}
+use Rattle.paper.specs.Bytes.{Bytes}
 use Rattle.paper.specs.Refusals.{Res, given, refused, _>>_, refusal-of}
 use Rattle.paper.specs.Records.{Part, path, place, reads, text-or-empty, lawful-record, lawful-address, find, extract}
 use Rattle.records.specs.Found.{lawful-find, found-of, Within, at, no-part, no-answer, found-bytes, found-there}
-use Rattle.lent.specs.Scan.{range}
-use Rattle.records.specs.Scan.{spot}
-use Rattle.records.specs.declared.Spot.{Spot}
 use Rattle.records.specs.declared.Found.{Found}
 use Rattle.records.specs.declared.Found.the-variants.{At, Missing, Refused}
 use Rattle.records.proofs.Found.{the-type}
-use Rattle.records.proofs.Laws.{Lies, spot-lies, spot-place, is-there}
+use Rattle.paper.proofs.Splitting.{found-is-own, found-ends}
 use Rattle.records.proofs.Refusing.{passed, stopped, told-find}
 
 pub then-then : {A : Type 0} (x y : Res (Unit {0})) (z : Res A) → (x >> y) >> z ≡ x >> (y >> z)
@@ -45,16 +40,13 @@ pub data Inside (item : Bytes) : Res (Option Part) → Type 0 where
   missing : Inside item (given none)
   refused-so : (n : ℕ) → Inside item (refused n)
 
-inside-spot : (item : Bytes) (p : Spot) (t : Bool) → Lies (length item) p → Inside item (given (if t then some (record { start = p .start; text = range item (p .start) (p .end) }) else none))
-unfolding range
-inside-spot item p true l =
-    let n : length (take (p .end - p .start) (drop (p .start) item)) ≡ p .end - p .start = length-take-le (p .end - p .start) (drop (p .start) item) (omega (arith, length-drop (p .start) item)) in
-    found (record { start = p .start; text = take (p .end - p .start) (drop (p .start) item) }) (omega arith) (ap (λ (k : ℕ). take k (drop (p .start) item)) (sym n))
-inside-spot item p false l = missing
-
 module _ (item : Bytes) (a v s : ℕ) where
   pub inside-place : Inside item (given (place item a v s))
-  inside-place = rw (spot-place item a v s (spot item a v s) refl) (inside-spot item (spot item a v s) (is-there (spot item a v s)) (spot-lies item a v s))
+  inside-place = on-place (place item a v s) refl
+    where
+      on-place : (o : Option Part) → place item a v s ≡ o → Inside item (given o)
+      on-place none e = missing
+      on-place (some p) e = found p (found-ends item a v s p e) (found-is-own item a v s p e)
 
   inside-then : (x : Res (Unit {0})) → Inside item (x >> given (place item a v s))
   inside-then (given t) = inside-place

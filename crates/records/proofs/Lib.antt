@@ -1,9 +1,8 @@
 pub mod Turns
-pub mod Blocks
-pub mod Laws
+pub mod Scanning
+pub mod Spots
 pub mod Refusing
 pub mod Finding
-pub mod Changing
 pub mod Replacing
 pub mod Writing
 pub mod Settled

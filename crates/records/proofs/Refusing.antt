@@ -1,12 +1,12 @@
 -- Tests in their order: a refusal's number tells whether a test was passed, and each test of a record and an address by what it asks.
 use mathlib.Core.Path.{_≡_, refl, sym, ap, _∙_}
-use mathlib.Core.Bool.{Bool, true, false, true≢false, _&&_, _||_, not}
+use mathlib.Core.Bool.{Bool, true, false, _&&_, _||_, not}
 use Prim.Native.Nat.{ℕ, suc, _+_, _-_, _≤_, _<_}
 use native.Mathlib.Omega.{arith}
 use lib.ListN.{length, take, drop}
 use lib.Dec.{leb, ltb, eqb}
-use borrow.Author.Tests.{le-leb, lt-leb, not-true, not-false}
-use Rattle.paper.specs.Bytes.{Bytes, any}
+use borrow.Author.Tests.{le-leb, lt-leb}
+use Rattle.paper.specs.Bytes.{Bytes, any, if_then_else_}
 use Rattle.paper.specs.Sizes.{attribute-mark, value-mark, subvalue-mark, buffer-mark, segment-mark, is-outer-mark, is-inner-mark, record-most, id-most, attribute-most, position-most}
 use Rattle.paper.specs.Refusals.{Res, given, refused, _>>_, refuse_unless_, refuse_when_, refusal-of}
 use Rattle.paper.specs.Records.{id-of, lawful-id, lawful-record, lawful-address}
@@ -112,31 +112,14 @@ module _ (item : Bytes) where
 
 -- ---- the address
 
-when-either : (n : ℕ) (y z : Bool) → y || z ≡ true → refusal-of ((refuse n when y) >> (refuse n when z)) ≡ n
-when-either n true z e = refl
-when-either n false true e = refl
-when-either n false false e = absurd (true≢false (sym e))
-
-when-neither : (n : ℕ) (y z : Bool) → y || z ≡ false → refusal-of ((refuse n when y) >> (refuse n when z)) ≡ 0
-when-neither n true z e = absurd (true≢false e)
-when-neither n false true e = absurd (true≢false e)
-when-neither n false false e = refl
-
-module _ (a v s : ℕ) where
-  abbrev small : Bool
-  small = leb a attribute-most && leb v position-most && leb s position-most
-
-  abbrev odd : Bool
-  odd = (eqb v 0 && ltb 0 s) || (eqb a 0 && ltb 0 v)
-
-  pub large-address : not small ≡ true → 4 ≡ refusal-of (lawful-address a v s)
-  unfolding lawful-address
-  large-address e = rw (not-true small e)
-
-  pub odd-address : not small ≡ false → odd ≡ true → 4 ≡ refusal-of (lawful-address a v s)
-  unfolding lawful-address
-  odd-address e o = rw (not-false small e) (sym (when-either 4 (eqb v 0 && ltb 0 s) (eqb a 0 && ltb 0 v) o))
-
-  pub fine-address : not small ≡ false → odd ≡ false → 0 ≡ refusal-of (lawful-address a v s)
-  unfolding lawful-address
-  fine-address e o = rw (not-false small e) (sym (when-neither 4 (eqb v 0 && ltb 0 s) (eqb a 0 && ltb 0 v) o))
+-- each of its tests refuses with 4
+pub address-number : (a v s : ℕ) → refusal-of (lawful-address a v s)
+    ≡ (if not (leb a attribute-most && leb v position-most && leb s position-most) then 4 else (if (eqb v 0 && ltb 0 s) || (eqb a 0 && ltb 0 v) then 4 else 0))
+unfolding lawful-address
+address-number a v s = go (leb a attribute-most && leb v position-most && leb s position-most) (eqb v 0 && ltb 0 s) (eqb a 0 && ltb 0 v)
+  where
+    go : (x y z : Bool) → refusal-of ((refuse 4 unless x) >> ((refuse 4 when y) >> (refuse 4 when z))) ≡ (if not x then 4 else (if y || z then 4 else 0))
+    go false y z = refl
+    go true true z = refl
+    go true false true = refl
+    go true false false = refl

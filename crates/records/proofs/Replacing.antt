@@ -1,30 +1,30 @@
 -- Replacing's tests, in the order of the paper and of the code: what the result's id and length are, before it is written.
 use mathlib.Core.Path.{_≡_, refl, sym, ap, _∙_}
 use mathlib.Core.Bool.{Bool, true, false, true≢false, _&&_}
-use mathlib.Core.List.{List, [], _∷_, _++_, append-nil}
+use mathlib.Core.List.{List, [], _∷_}
 use Prim.Native.Nat.{ℕ, zero, suc, _-_, _≤_, _<_}
 use native.Mathlib.Omega.{arith}
 use lib.ListN.{length, replicate}
-use lib.Dec.{leb, ltb, eqb, eqb·suc-zero, lit≤}
-use borrow.Author.Tests.{leb-true, leb-false, ne-eqb, le-leb, lt-leb, ltb-false, eq-eqb, lt-ltb, le-ltb}
-use Rattle.paper.specs.Bytes.{Bytes, any, within, buffer, if_then_else_}
-use Rattle.paper.specs.Sizes.{attribute-mark, value-mark, subvalue-mark, buffer-mark, segment-mark, is-mark, is-inner-mark, is-outer-mark, record-most, id-most, entry-most, attribute-most, position-most}
-use Rattle.paper.specs.Refusals.{Res, given, refused, _>>=_, _>>_, refuse_unless_, refuse_when_, refusal-of, answer-of}
+use lib.Dec.{leb, ltb, eqb, eqb·suc-zero}
+use borrow.Author.Tests.{leb-true, leb-false, ne-eqb, le-leb, lt-leb, ltb-false, lt-ltb, le-ltb}
+use Rattle.paper.specs.Bytes.{Bytes, any, buffer}
+use Rattle.paper.specs.Sizes.{attribute-mark, value-mark, subvalue-mark, is-mark, is-inner-mark, is-outer-mark, record-most, id-most, entry-most, attribute-most, position-most}
+use Rattle.paper.specs.Refusals.{Res, given, refused, _>>_, refuse_unless_, refuse_when_, refusal-of, answer-of}
 use Rattle.paper.specs.Answers.{given-of}
 use Rattle.paper.specs.declared.Given.the-variants.{Length}
-use Rattle.paper.specs.Records.{first-of, split, join, alter, path, id-of, lawful-id, lawful-record, lawful-address, replaced, replace}
+use Rattle.paper.specs.Records.{first-of, split, alter, Turn, path, id-of, lawful-id, lawful-record, lawful-address, replaced, replace}
 use Rattle.records.specs.Found.{lawful-find}
-use Rattle.lent.specs.Scan.{upto}
-use Rattle.records.specs.Scan.{spot, marks, changed, changed-length}
+use Rattle.records.specs.Scan.{spot, changed, changed-length}
 use Rattle.records.specs.Planned.{lawful-new, Small, sized-plan, planned, plan-answer}
 use Rattle.records.specs.declared.Spot.{Spot}
 use Rattle.records.specs.declared.Plan.{Plan}
 use Rattle.records.specs.declared.Plan.the-variants.{Ready, Refused}
-use Rattle.records.proofs.Turns.{or-left, or-right}
-use Rattle.paper.proofs.Ranges.{not-within}
-use Rattle.records.proofs.Laws.{upto-all, Lies, spot-lies, spot-few, length-changed}
-use Rattle.records.proofs.Changing.{behind, behind-cons, upto-cons, join-alter, join-first-piece, whole-framed, replaced-spot}
-use Rattle.records.proofs.Refusing.{Told, told-unless, told-when, told-then, passed, stopped, told-find, id-upto}
+use Rattle.paper.proofs.Truths.{both, unless-passed, when-passed}
+use Rattle.paper.proofs.Predicates.{none-of, and-all, all-map}
+use Rattle.paper.proofs.Replacing.{Down, turn, path-down, split-replaced, is-replaced}
+use Rattle.paper.proofs.Splitting.{any-without, without-any}
+use Rattle.records.proofs.Spots.{Lies, spot-lies, length-changed, attribute-turns, path-turns, replaced-spot}
+use Rattle.records.proofs.Refusing.{Told, told-unless, told-when, told-then, passed, stopped, told-find}
 use Rattle.records.proofs.Finding.{then-then}
 
 -- ---- a test that was passed
@@ -32,14 +32,6 @@ use Rattle.records.proofs.Finding.{then-then}
 then-given : {A : Type 0} (x : Res (Unit {0})) (y : Res A) (r : A) → x >> y ≡ given r → (x ≡ given tt) × (y ≡ given r)
 then-given (given t) y r e = (refl, e)
 then-given (refused n) y r e = let z : _≡_ {A = ℕ} 0 1 = cc in absurd (omega arith)
-
-unless-given : (n : ℕ) (t : Bool) → (refuse n unless t) ≡ given tt → t ≡ true
-unless-given n true e = refl
-unless-given n false e = let z : _≡_ {A = ℕ} 0 1 = cc in absurd (omega arith)
-
-when-given : (n : ℕ) (t : Bool) → (refuse n when t) ≡ given tt → t ≡ false
-when-given n true e = let z : _≡_ {A = ℕ} 0 1 = cc in absurd (omega arith)
-when-given n false e = refl
 
 -- What a lawful record and a lawful address are.
 pub record Lawful (item : Bytes) (a v s : ℕ) : Type 0 where
@@ -50,128 +42,60 @@ pub record Lawful (item : Bytes) (a v s : ℕ) : Type 0 where
   pub subvalue : s ≤ position-most
   pub whole-id : a ≡ 0 → v ≡ 0
 
-and-left : (t u : Bool) → t && u ≡ true → t ≡ true
-and-left true u e = refl
-and-left false u e = e
-
-and-right : (t u : Bool) → t && u ≡ true → u ≡ true
-and-right true u e = e
-and-right false u e = absurd (true≢false (sym e))
-
-and-false : (t u : Bool) → t && u ≡ false → t ≡ true → u ≡ false
-and-false true u e h = e
-and-false false u e h = absurd (true≢false (sym h))
-
 pub lawful : (item : Bytes) (a v s : ℕ) → lawful-find item a v s ≡ given tt → Lawful item a v s
 unfolding lawful-find lawful-record lawful-address
 lawful item a v s e =
-    let both = then-given (lawful-record item) (lawful-address a v s) tt e in
-    let r₁ = then-given (refuse 1 unless leb (length item) record-most) _ tt (both .0) in
+    let tests = then-given (lawful-record item) (lawful-address a v s) tt e in
+    let r₁ = then-given (refuse 1 unless leb (length item) record-most) _ tt (tests .0) in
     let r₂ = then-given (refuse 2 when any is-outer-mark item) (lawful-id item) tt (r₁ .1) in
-    let a₁ = then-given (refuse 4 unless leb a attribute-most && leb v position-most && leb s position-most) _ tt (both .1) in
-    let small = unless-given 4 (leb a attribute-most && leb v position-most && leb s position-most) (a₁ .0) in
+    let a₁ = then-given (refuse 4 unless leb a attribute-most && leb v position-most && leb s position-most) _ tt (tests .1) in
+    let small = unless-passed 4 (leb a attribute-most && leb v position-most && leb s position-most) (a₁ .0) in
     let a₂ = then-given (refuse 4 when eqb v 0 && ltb 0 s) (refuse 4 when eqb a 0 && ltb 0 v) tt (a₁ .1) in
-    let av = and-left (leb a attribute-most && leb v position-most) (leb s position-most) small in
+    let low = both (leb a attribute-most && leb v position-most) (leb s position-most) small in
+    let av = both (leb a attribute-most) (leb v position-most) (low .0) in
     record {
-      short = leb-true (length item) record-most (unless-given 1 _ (r₁ .0));
+      short = leb-true (length item) record-most (unless-passed 1 _ (r₁ .0));
       id = r₂ .1;
-      attribute = leb-true a attribute-most (and-left (leb a attribute-most) (leb v position-most) av);
-      value = leb-true v position-most (and-right (leb a attribute-most) (leb v position-most) av);
-      subvalue = leb-true s position-most (and-right (leb a attribute-most && leb v position-most) (leb s position-most) small);
-      whole-id = λ z. let n = ltb-false 0 v (and-false (eqb a 0) (ltb 0 v) (when-given 4 (eqb a 0 && ltb 0 v) (a₂ .1)) (eq-eqb a 0 z)) in omega arith;
+      attribute = leb-true a attribute-most (av .0);
+      value = leb-true v position-most (av .1);
+      subvalue = leb-true s position-most (low .1);
+      whole-id = λ z. let n = ltb-false 0 v (rw z at (when-passed 4 (eqb a 0 && ltb 0 v) (a₂ .1))) in omega arith;
     }
 
 -- ---- the id of the result
 
 -- no mark of any kind is no mark of this kind
-not-here : (low high b : ℕ) → buffer-mark ≤ low → high ≤ segment-mark → is-mark b ≡ false → within low high b ≡ false
-unfolding is-mark
-not-here low high b l h e = not-within low high b (λ x y. true≢false (rw (le-leb buffer-mark b (omega arith), le-leb b segment-mark (omega arith)) at e))
-
-not-inner : (b : ℕ) → is-mark b ≡ false → is-inner-mark b ≡ false
-unfolding is-mark is-inner-mark
-not-inner b e =
-    rw (ne-eqb b subvalue-mark (λ x. let t : is-mark subvalue-mark ≡ false = rw x at e in true≢false t), ne-eqb b value-mark (λ x. let t : is-mark value-mark ≡ false = rw x at e in true≢false t))
+unlike : (m b : ℕ) → is-mark m ≡ true → is-mark b ≡ false → eqb b m ≡ false
+unlike m b t e = ne-eqb b m (λ x. true≢false (sym t ∙ ap is-mark (sym x) ∙ e))
 
 any-inner : (l : Bytes) → any is-mark l ≡ false → any is-inner-mark l ≡ false
-unfolding any
-any-inner [] e = refl
-any-inner (b ∷ bs) e = rw (not-inner b (or-left (is-mark b) (any is-mark bs) e)) (any-inner bs (or-right (is-mark b) (any is-mark bs) e))
+unfolding is-mark is-inner-mark
+any-inner l e = without-any is-inner-mark (all-map (λ b h. rw (unlike subvalue-mark b refl h, unlike value-mark b refl h)) (any-without is-mark l e))
 
-unmarked : (l rest : Bytes) → any is-mark l ≡ false → upto attribute-mark attribute-mark (l ++ rest) ≡ l ++ upto attribute-mark attribute-mark rest
-unfolding any upto
-unmarked [] rest e = refl
-unmarked (b ∷ bs) rest e =
-    rw (not-here attribute-mark attribute-mark b (lit≤ tt) (lit≤ tt) (or-left (is-mark b) (any is-mark bs) e)) (ap (λ (l : Bytes). b ∷ l) (unmarked bs rest (or-right (is-mark b) (any is-mark bs) e)))
+below : {m : ℕ} {ms : List ℕ} {t : Turn} {ts : List Turn} → Down (m ∷ ms) (t ∷ ts) → Down ms ts
+below (turn d) = d
 
-behind-byte-shut : (m b : ℕ) (bs : Bytes) (t : Bool) → within m attribute-mark b ≡ t → upto m attribute-mark (behind m bs) ≡ [] → upto m attribute-mark (if t then (b ∷ bs) else behind m bs) ≡ []
-behind-byte-shut m b bs true e ih = rw (upto-cons m b bs, e)
-behind-byte-shut m b bs false e ih = ih
-
--- what stands behind a piece begins with a mark, or is nothing
-behind-shut : (m : ℕ) (bs : Bytes) → upto m attribute-mark (behind m bs) ≡ []
-unfolding behind upto
-behind-shut m [] = refl
-behind-shut m (b ∷ bs) = rw (behind-cons m b bs) (behind-byte-shut m b bs (within m attribute-mark b) refl (behind-shut m bs))
+-- the result has the attributes that there were, but for the one that is replaced: so its first piece is the id
+id-replaced : (item : Bytes) (a v s : ℕ) (new : Bytes) → any is-mark new ≡ false → id-of (replaced (path a v s) new item) ≡ first-of (alter a (λ p. replaced (attribute-turns v s) new p) (split attribute-mark item))
+unfolding id-of is-mark
+id-replaced item a v s new u =
+    let down = below (rw (path-turns a v s) at (path-down a v s)) in
+    let free = all-map (λ b h. unlike attribute-mark b refl h) (any-without is-mark new u) in
+    rw (path-turns a v s) (ap first-of (split-replaced attribute-mark free (and-all refl (and-all refl none-of)) down a item))
 
 -- the id is replaced: the new bytes are the id
-new-id : (item : Bytes) (s : ℕ) (new : Bytes) → any is-mark new ≡ false → id-of (replaced (path 0 0 s) new item) ≡ new
-unfolding path replaced
-new-id item s new e =
-    let front : join attribute-mark (alter 0 (λ (l : Bytes). new) (split attribute-mark item)) ≡ new ++ behind attribute-mark item
-    = ap (λ (l : Bytes). join attribute-mark (alter 0 (λ (r : Bytes). new) (split attribute-mark l))) (sym (upto-all attribute-mark item))
-    ∙ whole-framed item _ ∙ join-first-piece attribute-mark (lit≤ tt) (λ (l : Bytes). new) item in
-    ap id-of front ∙ id-upto (new ++ behind attribute-mark item) ∙ unmarked new (behind attribute-mark item) e
-    ∙ ap (λ (l : Bytes). new ++ l) (behind-shut attribute-mark item) ∙ append-nil new
-
-rest-of : List Bytes → List Bytes
-rest-of [] = []
-rest-of (p ∷ ps) = ps
-
-alter-later : (n : ℕ) (f : Bytes → Bytes) (ps : List Bytes) → alter (suc n) f ps ≡ first-of ps ∷ alter n f (rest-of ps)
-unfolding alter rest-of
-alter-later n f [] = refl
-alter-later n f (p ∷ ps) = refl
-
-again-byte : (b : ℕ) (l rest : Bytes) (t : Bool) → within attribute-mark attribute-mark b ≡ t → upto attribute-mark attribute-mark (l ++ attribute-mark ∷ rest) ≡ l
-    → upto attribute-mark attribute-mark ((if t then [] else (b ∷ l)) ++ attribute-mark ∷ rest) ≡ (if t then [] else (b ∷ l))
-unfolding upto
-again-byte b l rest true e ih = refl
-again-byte b l rest false e ih = rw e (ap (λ (r : Bytes). b ∷ r) ih)
-
--- a piece, with its mark behind it, ends where it ended
-upto-again : (bs rest : Bytes) → upto attribute-mark attribute-mark (upto attribute-mark attribute-mark bs ++ attribute-mark ∷ rest) ≡ upto attribute-mark attribute-mark bs
-unfolding upto
-upto-again [] rest = refl
-upto-again (b ∷ bs) rest = again-byte b (upto attribute-mark attribute-mark bs) rest (within attribute-mark attribute-mark b) refl (upto-again bs rest)
-
-first-id : (item : Bytes) → first-of (split attribute-mark item) ≡ upto attribute-mark attribute-mark item
-unfolding id-of
-first-id item = id-upto item
-
-kept-front : (item rest : Bytes) → id-of (first-of (split attribute-mark item) ++ attribute-mark ∷ rest) ≡ id-of item
-kept-front item rest =
-    ap (λ (l : Bytes). id-of (l ++ attribute-mark ∷ rest)) (first-id item) ∙ id-upto (upto attribute-mark attribute-mark item ++ attribute-mark ∷ rest)
-    ∙ upto-again item rest ∙ sym (id-upto item)
+new-id : (new : Bytes) (ps : List Bytes) → first-of (alter 0 (λ p. new) ps) ≡ new
+unfolding alter
+new-id new [] = refl
+new-id new (p ∷ ps) = refl
 
 -- another attribute is replaced: the id stays
-kept-join : (item : Bytes) (n : ℕ) (f : Bytes → Bytes) → id-of (join attribute-mark (alter (suc n) f (split attribute-mark item))) ≡ id-of item
-kept-join item n f =
-    ap (λ (l : List Bytes). id-of (join attribute-mark l)) (alter-later n f (split attribute-mark item))
-    ∙ ap id-of (join-alter attribute-mark n f (first-of (split attribute-mark item)) (rest-of (split attribute-mark item)))
-    ∙ kept-front item (join attribute-mark (alter n f (rest-of (split attribute-mark item))))
-
-kept-id : (item : Bytes) (a v s : ℕ) (new : Bytes) → id-of (replaced (path (suc a) v s) new item) ≡ id-of item
-unfolding path replaced
-kept-id item a zero s new = kept-join item a _
-kept-id item a (suc v) zero new = kept-join item a _
-kept-id item a (suc v) (suc s) new = kept-join item a _
+kept-id : (n : ℕ) (f : Bytes → Bytes) (ps : List Bytes) → first-of (alter (suc n) f ps) ≡ first-of ps
+unfolding alter
+kept-id n f [] = refl
+kept-id n f (p ∷ ps) = refl
 
 -- ---- the tests of the result
-
-by-id : (x y : Bytes) → id-of x ≡ id-of y → lawful-id x ≡ lawful-id y
-unfolding lawful-id
-by-id x y e = rw e
 
 -- a new id without marks is tested for its length alone
 id-length : (item new : Bytes) (t : Bool) → leb (length new) id-most ≡ t → id-of item ≡ new → any is-mark new ≡ false → lawful-id item ≡ (refuse 3 when ltb id-most (length new))
@@ -180,10 +104,11 @@ id-length item new true et e u = rw (e, any-inner new u, et, le-ltb id-most (len
 id-length item new false et e u = rw (e, any-inner new u, et, lt-ltb id-most (length new) (leb-false (length new) id-most et))
 
 id-after : (item : Bytes) (a v s : ℕ) (new : Bytes) → Lawful item a v s → any is-mark new ≡ false → lawful-id (replaced (path a v s) new item) ≡ (refuse 3 when eqb a 0 && ltb id-most (length new))
+unfolding replaced id-of lawful-id
 id-after item zero v s new l u =
     let z : v ≡ 0 = l .whole-id refl in
-    rw z (id-length (replaced (path 0 0 s) new item) new (leb (length new) id-most) refl (new-id item s new u) u)
-id-after item (suc a) v s new l u = rw (eqb·suc-zero a) (by-id (replaced (path (suc a) v s) new item) item (kept-id item a v s new) ∙ l .id)
+    rw z (id-length (replaced (path 0 0 s) new item) new (leb (length new) id-most) refl (id-replaced item 0 0 s new u ∙ new-id new (split attribute-mark item)) u)
+id-after item (suc a) v s new l u = rw (eqb·suc-zero a, id-replaced item (suc a) v s new u, kept-id a _ (split attribute-mark item)) (l .id)
 
 -- 1 and 16 of what would result, and then the result
 fit : Bytes → ℕ → Res Bytes
@@ -205,8 +130,8 @@ module _ (item : Bytes) (a v s : ℕ) (new : Bytes) (room : ℕ) where
   replace-tests : lawful-find item a v s ≡ given tt → replace item a v s new room ≡ lawful-new new a >> fit result room
   unfolding replace lawful-new fit lawful-find
   replace-tests e =
-      let both = then-given (lawful-record item) (lawful-address a v s) tt e in
-      rw (both .0, both .1)
+      let tests = then-given (lawful-record item) (lawful-address a v s) tt e in
+      rw (tests .0, tests .1)
       (in-order (leb (length new) entry-most) (any is-mark new) (lawful-id result) (refuse 3 when eqb a 0 && ltb id-most (length new)) (fit result room) (λ u. id-after item a v s new (lawful item a v s e) u))
 
   refused-tests : (n : ℕ) → lawful-find item a v s ≡ refused n → replace item a v s new room ≡ refused n
@@ -249,7 +174,7 @@ module _ (item : Bytes) (a v s : ℕ) (new : Bytes) (room : ℕ) where
     pub plan-sized : q ≡ 0 → (total : ℕ) → total ≡ changed-length (length item) (spot item a v s) (length new) → sized-plan (spot item a v s) total room ≡ planned (spot item a v s) (replace item a v s new room)
     plan-sized zq total et =
         let p = spot item a v s in
-        let n : total ≡ length (result item a v s new room) = et ∙ sym (length-changed item p new (spot-lies item a v s)) ∙ ap length (sym (replaced-spot item a v s new)) in
+        let n : total ≡ length (result item a v s new room) = et ∙ sym (length-changed item p new (omega (arith, spot-lies item a v s))) ∙ ap length (sym (replaced-spot item a v s new)) in
         rw (replace-tests item a v s new room (passed (told-find item a v s) r e z), passed (told-new new a) q eq zq, n) (sym (planned-fit p (result item a v s new room) room _ _ refl refl))
 
     pub small-spot : q ≡ 0 → Small (length item) (spot item a v s) (length new)
@@ -257,15 +182,11 @@ module _ (item : Bytes) (a v s : ℕ) (new : Bytes) (room : ℕ) where
     small-spot zq =
         let l = lawful item a v s (passed (told-find item a v s) r e z) in
         let n = then-given (refuse 9 unless leb (length new) entry-most) _ tt (passed (told-new new a) q eq zq) in
-        let few = leb-true (length new) entry-most (unless-given 9 _ (n .0)) in
+        let few = leb-true (length new) entry-most (unless-passed 9 _ (n .0)) in
         let lies = spot-lies item a v s in
-        let marks = spot-few item a v s in
         record { ordered = lies .ordered; inside = lies .inside; short = l .short; few = omega arith; attributes = omega arith; values = omega arith; subvalues = omega arith }
 
 -- ---- what a plan says of replacing
-
-given-is : {A : Type 0} (x y : A) → given x ≡ given y → x ≡ y
-given-is x y e = cc
 
 plan-of : (p q : Spot) (total : ℕ) (x : Res Bytes) → Ready q total ≡ planned p x → (q ≡ p) × (x ≡ given (answer-of x)) × (total ≡ length (answer-of x))
 unfolding planned
@@ -285,11 +206,19 @@ zeros-answer p n size (refused m) e =
     let k : size ≡ size - 0 = omega arith in
     ap (λ (j : ℕ). replicate j 0) k
 
+-- What a plan that is ready says of replacing, which gives x: what is answered and written, where in the record, and that there is room for it.
+pub record Readied (item new : Bytes) (room : ℕ) (x : Res Bytes) (q : Spot) (total : ℕ) : Type 0 where
+  pub answer : Length total ≡ given-of x
+  pub bytes : changed item q new ≡ answer-of x
+  pub ordered : q .start ≤ q .end
+  pub inside : q .end ≤ length item
+  pub fits : changed-length (length item) q (length new) ≤ room
+
 module _ (item : Bytes) (a v s : ℕ) (new : Bytes) (room : ℕ) where
-  -- where replacing gives a record, it is the result, and there is room for it
-  given-result : (bs : Bytes) → replace item a v s new room ≡ given bs → (result item a v s new room ≡ bs) × (length bs ≤ room)
+  -- where replacing gives a record, there is room for it
+  given-fits : (bs : Bytes) → replace item a v s new room ≡ given bs → length bs ≤ room
   unfolding replace
-  given-result bs e =
+  given-fits bs e =
       let r = result item a v s new room in
       let e₁ = then-given (lawful-record item) _ bs e .1 in
       let e₂ = then-given (lawful-address a v s) _ bs e₁ .1 in
@@ -297,26 +226,19 @@ module _ (item : Bytes) (a v s : ℕ) (new : Bytes) (room : ℕ) where
       let e₄ = then-given (refuse 17 when any is-mark new) _ bs e₃ .1 in
       let e₅ = then-given (lawful-id r) _ bs e₄ .1 in
       let e₆ = then-given (refuse 1 unless leb (length r) record-most) _ bs e₅ .1 in
-      let e₇ = then-given (refuse 16 unless leb (length r) room) (given r) bs e₆ in
-      let same : r ≡ bs = given-is r bs (e₇ .1) in
-      (same, omega (arith, leb-true (length r) room (unless-given 16 (leb (length r) room) (e₇ .0)), ap length same))
+      let e₇ = then-given (refuse 16 unless leb (length r) room) (given r) bs e₆ .0 in
+      rw (sym (is-replaced item a v s new room e)) (leb-true (length r) room (unless-passed 16 (leb (length r) room) e₇))
 
-  module _ (q : Spot) (total : ℕ) (e : Ready q total ≡ planned (spot item a v s) (replace item a v s new room)) where
-    pub ready-spot : q ≡ spot item a v s
-    ready-spot = plan-of (spot item a v s) q total (replace item a v s new room) e .0
-
-    pub ready-answer : Length total ≡ given-of (replace item a v s new room)
-    ready-answer = answered (spot item a v s) (Ready q total) (replace item a v s new room) e
-
-    ready-result : (result item a v s new room ≡ answer-of (replace item a v s new room)) × (length (answer-of (replace item a v s new room)) ≤ room)
-    ready-result = given-result (answer-of (replace item a v s new room)) (plan-of (spot item a v s) q total (replace item a v s new room) e .1)
-
-    -- what is to be written is the answer
-    pub ready-bytes : changed item q new ≡ answer-of (replace item a v s new room)
-    ready-bytes = ap (λ (p : Spot). changed item p new) ready-spot ∙ sym (replaced-spot item a v s new) ∙ ready-result .0
-
-    pub ready-lies : Lies (length item) q
-    ready-lies = rw ready-spot (spot-lies item a v s)
-
-    pub ready-room : changed-length (length item) q (length new) ≤ room
-    ready-room = omega (arith, length-changed item q new ready-lies, ap length ready-bytes, ready-result .1)
+  pub readied : (q : Spot) (total : ℕ) → Ready q total ≡ planned (spot item a v s) (replace item a v s new room) → Readied item new room (replace item a v s new room) q total
+  readied q total e =
+      let x = replace item a v s new room in
+      let plan = plan-of (spot item a v s) q total x e in
+      let lies : Lies (length item) a v s q = rw (plan .0) (spot-lies item a v s) in
+      let bytes = ap (λ (p : Spot). changed item p new) (plan .0) ∙ sym (replaced-spot item a v s new) ∙ is-replaced item a v s new room (plan .1) in
+      record {
+        answer = answered (spot item a v s) (Ready q total) x e;
+        bytes = bytes;
+        ordered = lies .ordered;
+        inside = lies .inside;
+        fits = omega (arith, length-changed item q new (omega arith), ap length bytes, given-fits (answer-of x) (plan .1));
+      }

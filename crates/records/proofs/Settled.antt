@@ -2,30 +2,14 @@
 -- Of a part that is handed back: its bytes, and where in memory they stand.
 use mathlib.Core.Path.{_≡_, sym, _∙_}
 use contract.Lifetimes.{Lfts}
-use Rattle.records.proofs.next_mark.Reads as next-mark
-use Rattle.records.proofs.lawful.Reads as lawful
-use Rattle.records.proofs.lawful_address.Reads as lawful-address
 use Rattle.records.proofs.lawful_find.Reads as lawful-find
-use Rattle.records.proofs.place.Reads as place
 use Rattle.records.proofs.find.Reads as find
 use Rattle.records.proofs.extract.Reads as extract
 use Rattle.records.proofs.part.Reads as part
 use Rattle.records.proofs.replace.Reads as replace
 
-next-mark-settled : (κs : Lfts 1) → (a : _) (r r′ : _) (e e′ : _) → next-mark.Post κs a r e → next-mark.Post κs a r′ e′ → r ≡ r′
-next-mark-settled κs a r r′ e e′ p q = p ∙ sym q
-
-lawful-settled : (κs : Lfts 1) → (a : _) (r r′ : _) (e e′ : _) → lawful.Post κs a r e → lawful.Post κs a r′ e′ → r ≡ r′
-lawful-settled κs a r r′ e e′ p q = p ∙ sym q
-
-lawful-address-settled : (κs : Lfts 0) → (a : _) (r r′ : _) (e e′ : _) → lawful-address.Post κs a r e → lawful-address.Post κs a r′ e′ → r ≡ r′
-lawful-address-settled κs a r r′ e e′ p q = p ∙ sym q
-
 lawful-find-settled : (κs : Lfts 1) → (a : _) (r r′ : _) (e e′ : _) → lawful-find.Post κs a r e → lawful-find.Post κs a r′ e′ → r ≡ r′
 lawful-find-settled κs a r r′ e e′ p q = p ∙ sym q
-
-place-settled : (κs : Lfts 1) → (a : _) (r r′ : _) (e e′ : _) → place.Post κs a r e → place.Post κs a r′ e′ → r ≡ r′
-place-settled κs a r r′ e e′ p q = p ∙ sym q
 
 find-settled : (κs : Lfts 1) → (a : _) (r r′ : _) (e e′ : _) → find.Post κs a r e → find.Post κs a r′ e′ → r ≡ r′
 find-settled κs a r r′ e e′ p q = p ∙ sym q

@@ -1,4 +1,4 @@
--- How the code walks a record, byte by byte. Furniture for the proofs: proofs/Laws.antt and proofs/Changing.antt tie each to the definitions of `paper`.
+-- How the code walks a record, byte by byte. Furniture for the proofs: proofs/Spots.antt ties each to the definitions of `paper`.
 use Prim.Native.Nat.{ℕ, zero, suc, _+_, _-_}
 use mathlib.Core.Bool.{Bool, _||_}
 use mathlib.Core.List.{[], _∷_, _++_}
@@ -29,20 +29,25 @@ skip m (b ∷ bs) at (suc n) = if within (suc m) attribute-mark b then record { 
 unfoldable pub spot-at : ℕ → Bytes → ℕ → ℕ → ℕ → ℕ → Spot
 spot-at m item at l₁ l₂ l₃ = record { start = at; end = at + length (upto m attribute-mark (drop at item)); attributes = l₁; values = l₂; subvalues = l₃ }
 
--- the place of an address, found or to be made: mark by mark, as the address names them
-unfoldable pub spot : Bytes → ℕ → ℕ → ℕ → Spot
-spot item a zero s =
-    let p = skip attribute-mark item 0 a in
-    spot-at attribute-mark item (p .at) (p .left) 0 0
-spot item a (suc v) zero =
-    let p = skip attribute-mark item 0 a in
-    let q = skip value-mark (drop (p .at) item) (p .at) v in
-    spot-at value-mark item (q .at) (p .left) (q .left) 0
-spot item a (suc v) (suc s) =
-    let p = skip attribute-mark item 0 a in
-    let q = skip value-mark (drop (p .at) item) (p .at) v in
+-- where attribute a begins, or is to be made, and how many marks are missing in front of it
+unfoldable pub attribute : Bytes → ℕ → Stop
+attribute item a = skip attribute-mark item 0 a
+
+-- subvalue s of the value that begins where q says, or all of it; l₁ attribute marks are missing
+unfoldable pub in-value : Bytes → ℕ → Stop → ℕ → Spot
+in-value item l₁ q zero = spot-at value-mark item (q .at) l₁ (q .left) 0
+in-value item l₁ q (suc s) =
     let r = skip subvalue-mark (drop (q .at) item) (q .at) s in
-    spot-at subvalue-mark item (r .at) (p .left) (q .left) (r .left)
+    spot-at subvalue-mark item (r .at) l₁ (q .left) (r .left)
+
+-- value v, and subvalue s of it, of the attribute that begins where p says, or all of it
+unfoldable pub in-attribute : Bytes → Stop → ℕ → ℕ → Spot
+in-attribute item p zero s = spot-at attribute-mark item (p .at) (p .left) 0 0
+in-attribute item p (suc v) s = in-value item (p .left) (skip value-mark (drop (p .at) item) (p .at) v) s
+
+-- the place of an address, found or to be made: the attribute, and then inside it
+unfoldable pub spot : Bytes → ℕ → ℕ → ℕ → Spot
+spot item a v s = in-attribute item (attribute item a) v s
 
 -- the marks that make a missing place
 unfoldable pub marks : Spot → Bytes

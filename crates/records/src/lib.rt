@@ -2,6 +2,8 @@
 // A record is tested once, in a loop without early exit; then its marks are counted from the left, no byte twice:
 // by blocks where there may be many bytes, which is compiled to SIMD, and one by one where there are few.
 // `find`, `extract` and `replace` take any input; the rest is for the crates above, which have tested the record.
+use lent::BLOCK;
+use lent::far_within;
 use lent::first_within;
 use lent::some_within;
 use paper::Given;
@@ -12,16 +14,16 @@ ghost use mathlib.Core.Path.{_≡_};
 ghost use Prim.Native.Nat.{_+_, _-_, _^_, _≤_, _<_};
 ghost use mathlib.Core.List.{_++_};
 ghost use lib.ListN.{length, take, drop, replicate};
-ghost use Rattle.paper.specs.Bytes.{any, within, buffer};
+ghost use Rattle.paper.specs.Bytes.{any, buffer};
 ghost use Rattle.paper.specs.Sizes.{attribute-mark};
 ghost use Rattle.paper.specs.Refusals.{given, refusal-of, answer-of};
 ghost use Rattle.paper.specs.Answers.{given-of};
 ghost use Rattle.paper.specs.Records.{lawful-id, lawful-record, lawful-address, place, path, reads, find, extract, replace};
 ghost use Rattle.records.specs.Found.{lawful-find, found-of, Within, found-bytes, found-there};
-ghost use Rattle.records.specs.Scan.{tally, is-either, skip, spot-at, spot, marks, made, changed, changed-length};
+ghost use Rattle.records.specs.Scan.{tally, is-either, skip, spot-at, attribute, in-value, in-attribute, spot, marks, made, changed, changed-length};
 ghost use Rattle.records.specs.Planned.{lawful-new, Small, sized-plan, planned, plan-answer};
 ghost use Rattle.lent.specs.Over.{over};
-ghost use Rattle.lent.specs.Scan.{range, upto};
+ghost use Rattle.lent.specs.Scan.{first-place};
 
 // "The answer of finding is "found" or "missing"", or a refusal.
 pub enum Found {
@@ -56,9 +58,6 @@ const ATTRIBUTES: u64 = Limit::ATTRIBUTE.most as u64;
 
 const POSITIONS: u64 = Limit::POSITION.most as u64;
 
-// As many bytes as are tested in one go where a scan may be long.
-const BLOCK: usize = 16;
-
 // A record below this is short.
 const SHORT: usize = 4 * BLOCK;
 
@@ -76,63 +75,6 @@ fn tally(text: &[u8], mark: Mark) -> u64
         }
     }
     n
-}
-
-// Past the blocks that hold no mark within low .. high.
-fn pass_blocks(item: &[u8], from: usize, to: usize, low: Mark, high: Mark) -> usize
-    requires { ⌜ (from ≤ to) × (to ≤ length (now item)) ⌝ }
-    ensures { λ r. ⌜ (r ≤ to) × (from + length (upto (low .byte) (high .byte) (range (now (item .entry)) from to)) ≡ r + length (upto (low .byte) (high .byte) (range (now (item .entry)) r to))) ⌝ }
-{
-    let mut at = from;
-    while BLOCK <= to - at {
-        let next = at + BLOCK;
-        if some_within(&item[at..next], low.byte, high.byte) {
-            return at;
-        }
-        at = next;
-    }
-    at
-}
-
-// The same place: by blocks, and the last bytes one by one.
-fn far_mark(item: &[u8], from: usize, to: usize, low: Mark, high: Mark) -> usize
-    requires { ⌜ (from ≤ to) × (to ≤ length (now item)) ⌝ }
-    ensures { λ r. ⌜ r ≡ from + length (upto (low .byte) (high .byte) (range (now (item .entry)) from to)) ⌝ }
-{
-    let at = pass_blocks(item, from, to, low, high);
-    first_within(item, at, to, low.byte, high.byte)
-}
-
-// At most a block behind `from`.
-fn near(from: usize, to: usize) -> usize
-    requires { ⌜ from ≤ to ⌝ }
-    ensures { λ r. ⌜ (from ≤ r) × (r ≤ to) ⌝ }
-{
-    if to - from < BLOCK {
-        return to;
-    }
-    from + BLOCK
-}
-
-// The first place from `from` up to `to` with a mark within low .. high, or `to`.
-// Most elements are short: the first bytes are tested one by one, and blocks only behind them.
-pub fn next_mark(item: &[u8], from: usize, to: usize, low: Mark, high: Mark) -> usize
-    requires { ⌜ (from ≤ to) × (to ≤ length (now item)) ⌝ }
-    ensures { λ r. ⌜ r ≡ from + length (upto (low .byte) (high .byte) (range (now (item .entry)) from to)) ⌝ }
-{
-    if to <= from {
-        return to;
-    }
-    let b = item[from];
-    if (low.byte <= b) & (b <= high.byte) {
-        return from;
-    }
-    let end = near(from, to);
-    let at = first_within(item, from, end, low.byte, high.byte);
-    if at < end {
-        return at;
-    }
-    far_mark(item, end, to, low, high)
 }
 
 // Past n marks, until a mark above them ends the piece that holds them.
@@ -161,7 +103,8 @@ fn skip(item: &[u8], from: usize, mark: Mark, n: u64) -> Stop
 // Past the blocks that end neither the marks to pass nor the piece that holds them.
 fn skip_blocks(item: &[u8], from: usize, mark: Mark, n: u64) -> Stop
     requires { ⌜ (from ≤ length (now item)) × (mark .byte ≤ attribute-mark) ⌝ }
-    ensures { λ r. ⌜ (r .at ≤ length (now (item .entry))) × (skip (mark .byte) (drop from (now (item .entry))) from n ≡ skip (mark .byte) (drop (r .at) (now (item .entry))) (r .at) (r .left)) ⌝ }
+    ensures { λ r. ⌜ r .at ≤ length (now (item .entry)) ⌝ }
+    ensures { λ r. ⌜ skip (mark .byte) (drop from (now (item .entry))) from n ≡ skip (mark .byte) (drop (r .at) (now (item .entry))) (r .at) (r .left) ⌝ }
 {
     let mut at = from;
     let mut left = n;
@@ -178,13 +121,25 @@ fn skip_blocks(item: &[u8], from: usize, mark: Mark, n: u64) -> Stop
     Stop { at, left }
 }
 
-// The same: by blocks, and the last bytes one by one.
-fn far_skip(item: &[u8], from: usize, mark: Mark, n: u64) -> Stop
+// Past n marks: by blocks, and the last bytes one by one.
+fn far_pass(item: &[u8], from: usize, mark: Mark, n: u64) -> Stop
     requires { ⌜ (from ≤ length (now item)) × (mark .byte ≤ attribute-mark) ⌝ }
     ensures { λ r. ⌜ r ≡ skip (mark .byte) (drop from (now (item .entry))) from n ⌝ }
 {
     let near = skip_blocks(item, from, mark, n);
     skip(item, near.at, mark, near.left)
+}
+
+// Past n marks. A short record is walked byte by byte: tests of blocks would cost more than they save.
+fn pass(item: &[u8], from: usize, mark: Mark, n: u64) -> Stop
+    requires { ⌜ (from ≤ length (now item)) × (mark .byte ≤ attribute-mark) ⌝ }
+    ensures { λ r. ⌜ r ≡ skip (mark .byte) (drop from (now (item .entry))) from n ⌝ }
+    ensures { λ r. ⌜ r .at ≤ length (now (item .entry)) ⌝ }
+{
+    if item.len() < SHORT {
+        return skip(item, from, mark, n);
+    }
+    far_pass(item, from, mark, n)
 }
 
 // Whether a byte x or y is there. No early exit and a flag as wide as a byte, so that it is compiled to SIMD.
@@ -260,95 +215,80 @@ pub fn lawful_find(item: &[u8], a: u64, v: u64, s: u64) -> u64
     lawful_address(a, v, s)
 }
 
-// The piece that begins at a place, up to the first mark from `mark` on.
+// The end of the piece that begins at a place: the first mark from `mark` on, in a short record byte by byte.
+fn piece_end(item: &[u8], at: usize, mark: Mark) -> usize
+    requires { ⌜ at ≤ length (now item) ⌝ }
+    ensures { λ r. ⌜ r ≡ first-place (mark .byte) attribute-mark (now (item .entry)) at (length (now (item .entry))) ⌝ }
+{
+    let size = item.len();
+    if size < SHORT {
+        return first_within(item, at, size, mark.byte, Mark::ATTRIBUTE.byte);
+    }
+    far_within(item, at, size, mark.byte, Mark::ATTRIBUTE.byte)
+}
+
+// That piece, and the marks still to be made in front of it.
 fn spot_at(item: &[u8], at: usize, mark: Mark, attributes: u64, values: u64, subvalues: u64) -> Spot
     requires { ⌜ at ≤ length (now item) ⌝ }
     ensures { λ r. ⌜ r ≡ spot-at (mark .byte) (now (item .entry)) at attributes values subvalues ⌝ }
 {
     Spot {
         start: at,
-        end: first_within(item, at, item.len(), mark.byte, Mark::ATTRIBUTE.byte),
+        end: piece_end(item, at, mark),
         attributes,
         values,
         subvalues,
     }
 }
 
-// The same, for a piece that may be long.
-fn far_spot(
-    item: &[u8],
-    at: usize,
-    mark: Mark,
-    attributes: u64,
-    values: u64,
-    subvalues: u64,
-) -> Spot
-    requires { ⌜ at ≤ length (now item) ⌝ }
-    ensures { λ r. ⌜ r ≡ spot-at (mark .byte) (now (item .entry)) at attributes values subvalues ⌝ }
-{
-    Spot {
-        start: at,
-        end: far_mark(item, at, item.len(), mark, Mark::ATTRIBUTE),
-        attributes,
-        values,
-        subvalues,
-    }
-}
-
+// Where attribute a begins, or is to be made, and by how many marks.
 // Where a scan finds no further mark it stops at the end of the piece that holds it, and the scans below it stop there too.
-fn locate_near(item: &[u8], a: u64, v: u64, s: u64) -> Spot
-    ensures { λ r. ⌜ r ≡ spot (now (item .entry)) a v s ⌝ }
+fn attribute(item: &[u8], a: u64) -> Stop
+    ensures { λ r. ⌜ r ≡ attribute (now (item .entry)) a ⌝ }
+    ensures { λ r. ⌜ r .at ≤ length (now (item .entry)) ⌝ }
 {
-    let attribute = skip(item, 0, Mark::ATTRIBUTE, a);
-    if v == 0 {
-        return spot_at(item, attribute.at, Mark::ATTRIBUTE, attribute.left, 0, 0);
+    if item.len() < SHORT {
+        return skip(item, 0, Mark::ATTRIBUTE, a);
     }
-    let value = skip(item, attribute.at, Mark::VALUE, v - 1);
+    far_pass(item, 0, Mark::ATTRIBUTE, a)
+}
+
+// Inside the value that begins at a place: "s = 0 the whole value".
+fn in_value(item: &[u8], attributes: u64, value: Stop, s: u64) -> Spot
+    requires { ⌜ value .at ≤ length (now item) ⌝ }
+    ensures { λ r. ⌜ r ≡ in-value (now (item .entry)) attributes value s ⌝ }
+{
     if s == 0 {
-        return spot_at(item, value.at, Mark::VALUE, attribute.left, value.left, 0);
+        return spot_at(item, value.at, Mark::VALUE, attributes, value.left, 0);
     }
-    let subvalue = skip(item, value.at, Mark::SUBVALUE, s - 1);
+    let subvalue = pass(item, value.at, Mark::SUBVALUE, s - 1);
     spot_at(
         item,
         subvalue.at,
         Mark::SUBVALUE,
-        attribute.left,
+        attributes,
         value.left,
         subvalue.left,
     )
 }
 
-// The same by blocks, for a record that may be long.
-fn locate_far(item: &[u8], a: u64, v: u64, s: u64) -> Spot
-    ensures { λ r. ⌜ r ≡ spot (now (item .entry)) a v s ⌝ }
+// Inside the attribute that begins at a place: "v = 0 means the whole attribute".
+fn in_attribute(item: &[u8], attribute: Stop, v: u64, s: u64) -> Spot
+    requires { ⌜ attribute .at ≤ length (now item) ⌝ }
+    ensures { λ r. ⌜ r ≡ in-attribute (now (item .entry)) attribute v s ⌝ }
 {
-    let attribute = far_skip(item, 0, Mark::ATTRIBUTE, a);
     if v == 0 {
-        return far_spot(item, attribute.at, Mark::ATTRIBUTE, attribute.left, 0, 0);
+        return spot_at(item, attribute.at, Mark::ATTRIBUTE, attribute.left, 0, 0);
     }
-    let value = far_skip(item, attribute.at, Mark::VALUE, v - 1);
-    if s == 0 {
-        return far_spot(item, value.at, Mark::VALUE, attribute.left, value.left, 0);
-    }
-    let subvalue = far_skip(item, value.at, Mark::SUBVALUE, s - 1);
-    far_spot(
-        item,
-        subvalue.at,
-        Mark::SUBVALUE,
-        attribute.left,
-        value.left,
-        subvalue.left,
-    )
+    let value = pass(item, attribute.at, Mark::VALUE, v - 1);
+    in_value(item, attribute.left, value, s)
 }
 
-// A short record is walked byte by byte: tests of blocks would cost more than they save.
+// The place of an address, found or to be made: the attribute, and then inside it.
 fn locate(item: &[u8], a: u64, v: u64, s: u64) -> Spot
     ensures { λ r. ⌜ r ≡ spot (now (item .entry)) a v s ⌝ }
 {
-    if item.len() < SHORT {
-        return locate_near(item, a, v, s);
-    }
-    locate_far(item, a, v, s)
+    in_attribute(item, attribute(item, a), v, s)
 }
 
 // The place of an address, without the tests.
@@ -497,7 +437,8 @@ fn write_front(item: &[u8], out: &mut [u8], spot: Spot) -> usize
 // The new bytes, the rest of the record, and zeros to the end.
 fn write_rest(new: &[u8], rest: &[u8], out: &mut [u8], at: usize)
     requires { ⌜ at + length (now new) + length (now rest) ≤ length (now out) ⌝ }
-    ensures { λ _. ⌜ now (out .exit) ≡ over (now (out .entry)) at (now (new .entry) ++ now (rest .entry) ++ replicate (length (now (out .entry)) - (at + length (now (new .entry)) + length (now (rest .entry)))) 0) ⌝ }
+    ensures { λ _. ⌜ now (out .exit) ≡ over (now (out .entry)) at
+        (now (new .entry) ++ now (rest .entry) ++ replicate (length (now (out .entry)) - (at + length (now (new .entry)) + length (now (rest .entry)))) 0) ⌝ }
 {
     lent::copy_in(new, out, at);
     let next = at + new.len();
@@ -509,7 +450,8 @@ fn write_rest(new: &[u8], rest: &[u8], out: &mut [u8], at: usize)
 
 // The record after replacing, each byte copied once, and zeros behind it.
 fn write(item: &[u8], new: &[u8], out: &mut [u8], spot: Spot)
-    requires { ⌜ (spot .start ≤ spot .end) × (spot .end ≤ length (now item)) × (changed-length (length (now item)) spot (length (now new)) ≤ length (now out)) ⌝ }
+    requires { ⌜ (spot .start ≤ spot .end) × (spot .end ≤ length (now item))
+        × (changed-length (length (now item)) spot (length (now new)) ≤ length (now out)) ⌝ }
     ensures { λ _. ⌜ now (out .exit) ≡ buffer (length (now (out .entry))) (changed (now (item .entry)) spot (now (new .entry))) ⌝ }
 {
     let end = spot.end;
@@ -530,7 +472,8 @@ fn answer(plan: Plan) -> Given
 // "Replacing writes a new record to the output."
 pub fn replace(item: &[u8], a: u64, v: u64, s: u64, new: &[u8], out: &mut [u8]) -> Given
     ensures answers { λ r. ⌜ r ≡ given-of (replace (now (item .entry)) a v s (now (new .entry)) (length (now (out .entry)))) ⌝ }
-    ensures writes { λ _. ⌜ now (out .exit) ≡ buffer (length (now (out .entry))) (answer-of (replace (now (item .entry)) a v s (now (new .entry)) (length (now (out .entry))))) ⌝ }
+    ensures writes { λ _. ⌜ now (out .exit)
+        ≡ buffer (length (now (out .entry))) (answer-of (replace (now (item .entry)) a v s (now (new .entry)) (length (now (out .entry))))) ⌝ }
 {
     let planned = prepare(item, a, v, s, new, out.len());
     let Plan::Ready { spot, total } = planned else {

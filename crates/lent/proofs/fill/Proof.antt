@@ -3,27 +3,20 @@ use Prim.Native.Nat.{_-_}
 use native.Mathlib.Omega.{arith}
 use mathlib.Core.Path.{sym}
 use lib.ListN.{replicate, length-replicate, getD-replicate}
-use Rattle.lent.proofs.Laws.{Laid, laid-none, laid-more, laid-all}
+use Rattle.lent.proofs.Laying.{Laying, laying-none, laying-more, laying-all}
 use Rattle.lent.proofs.fill.Statement.{statement}
 use Rattle.lent.proofs.fill.Tie as tie
 
 abbrev Inv-loop : tie.InvT-loop
-Inv-loop buf₀ at count b j₀ buf j = Laid buf₀ at (replicate count b) count j buf
+Inv-loop buf₀ at count b j₀ buf j = Laying buf₀ at (replicate count b) count 0 j buf
 
 abbrev μ-loop : tie.MeasureT-loop
 μ-loop buf₀ at count b j₀ buf j = count - j
 
-loop-holds : tie.Need-loop-holds Inv-loop μ-loop
-loop-holds c = laid-none _ _ _ _ (length-replicate _ _) (c .pre)
-
 loop-again : tie.Need-loop-again Inv-loop μ-loop
-loop-again c =
-    laid-more _ _ _ _ (length-replicate _ _) (c .before .before .pre) _ _ (c .before .loop .inv) (c .loop-test .taken) (sym (getD-replicate _ _ _ 0 (c .loop-test .taken)))
-
-returns : tie.Need-returns Inv-loop μ-loop
-returns c = laid-all _ _ _ _ (length-replicate _ _) (c .before .before .pre) (c .before .loop .inv) (c .loop-test .left)
+loop-again c = laying-more (c .before .loop .inv) _ (c .loop-test .taken) (sym (getD-replicate _ _ _ 0 (c .loop-test .taken)))
 
 pub fill-spec : {M : Type 1} → statement M
 fill-spec =
     tie.close
-    (tie.spec Inv-loop μ-loop loop-holds (λ c. omega arith) (λ c. omega arith) (λ c. omega arith) (λ c. omega arith) loop-again (λ c. omega arith) returns)
+    (tie.spec Inv-loop μ-loop (λ c. laying-none _ _ _ _ 0 (length-replicate _ _) (c .pre) (omega arith)) (λ c. omega arith) (λ c. omega arith) (λ c. omega arith) (λ c. omega arith) loop-again (λ c. omega arith) (λ c. laying-all (c .before .loop .inv) (omega arith) (c .loop-test .left)))

@@ -1,17 +1,16 @@
 -- `lent::first_within` meets its contract: from place to place the answer stays the same, until a byte within the two stops it.
-use Prim.Native.Nat.{_+_, _-_, _≤_}
+use Prim.Native.Nat.{_-_, _≤_}
 use mathlib.Core.Path.{_≡_, refl, _∙_}
 use native.Mathlib.Omega.{arith}
-use lib.ListN.{length}
 use denote.Ref.{now}
-use Rattle.lent.specs.Scan.{range, upto}
+use Rattle.lent.specs.Scan.{first-place}
 use Rattle.lent.proofs.Scans.{upto-hit, upto-more, upto-none}
 use Rattle.lent.proofs.first_within.Statement.{statement}
 use Rattle.lent.proofs.first_within.Tie as tie
 
 abbrev Inv-loop : tie.InvT-loop
 Inv-loop text from to low high at₀ at =
-    (from ≤ at) × (at ≤ to) × (from + length (upto low high (range text from to)) ≡ at + length (upto low high (range text at to)))
+    (from ≤ at) × (at ≤ to) × (first-place low high text from to ≡ first-place low high text at to)
 
 abbrev μ-loop : tie.MeasureT-loop
 μ-loop text from to low high at₀ at = to - at

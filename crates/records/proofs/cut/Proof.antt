@@ -25,14 +25,5 @@ returns-2 c =
 pub cut-spec : {M : Type 1} → statement M
 cut-spec =
     tie.close
-    (tie.spec
-    (λ c. search needs)
-    (λ c. search needs)
-    (λ c. search needs)
-    (λ c. search needs)
-    returns
-    (λ c. omega (arith, end-inside (c .before)))
-    (λ c. search needs)
-    (λ c. search needs)
-    (λ c. end-inside (c .before))
-    returns-2)
+    (tie.spec (λ c. search needs) (λ c. search needs) (λ c. search needs) (λ c. search needs) returns
+    (λ c. omega (arith, end-inside (c .before))) (λ c. search needs) (λ c. search needs) (λ c. end-inside (c .before)) returns-2)

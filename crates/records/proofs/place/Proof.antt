@@ -1,7 +1,7 @@
 -- `records::place` meets its contract: a spot with no mark to be made is the part, any other is missing.
 use borrow.Author.Needs.{needs}
 use denote.Ref.{now}
-use Rattle.records.proofs.Laws.{lies, found-spot, missing-spot}
+use Rattle.records.proofs.Spots.{lies, found-spot, missing-spot}
 use Rattle.records.proofs.place.Statement.{statement}
 use Rattle.records.proofs.place.Tie as tie
 

@@ -1,5 +1,5 @@
 -- `records::replace` meets its contract: what the plan says is answered, and written, or zeros are.
-use mathlib.Core.Path.{_≡_, sym, ap, _∙_}
+use mathlib.Core.Path.{sym, ap, _∙_}
 use borrow.Author.Needs.{needs}
 use denote.Ref.{now}
 use lib.ListN.{length}
@@ -7,8 +7,7 @@ use Rattle.paper.specs.Bytes.{buffer}
 use Rattle.paper.specs.Records.{replace}
 use Rattle.records.specs.Scan.{spot}
 use Rattle.records.specs.Planned.{planned}
-use Rattle.records.specs.declared.Plan.the-variants.{Ready}
-use Rattle.records.proofs.Replacing.{answered, zeros-answer, ready-answer, ready-bytes, ready-lies, ready-room}
+use Rattle.records.proofs.Replacing.{answered, zeros-answer, Readied, readied}
 use Rattle.records.proofs.replace.Statement.{statement}
 use Rattle.records.proofs.replace.Tie as tie
 
@@ -29,37 +28,23 @@ module _ (c : tie.After-planned) where
   abbrev start : tie.Start
   start = c .before .before .before .before .before .before
 
-  abbrev ready : Ready (c .planned .given .0 .0) (c .planned .given .0 .1 .0) ≡ planned (spot (now (start .args .item)) (start .args .a) (start .args .v) (start .args .s)) (replace (now (start .args .item)) (start .args .a) (start .args .v) (start .args .s) (now (start .args .new)) (length (now (start .args .out))))
-  ready = sym (c .planned .given .1) ∙ c .before .before .prepare .ensures
+  ready : Readied (now (start .args .item)) (now (start .args .new)) (length (now (start .args .out)))
+      (replace (now (start .args .item)) (start .args .a) (start .args .v) (start .args .s) (now (start .args .new)) (length (now (start .args .out)))) (c .planned .given .0 .0) (c .planned .given .0 .1 .0)
+  ready = readied (now (start .args .item)) _ _ _ (now (start .args .new)) (length (now (start .args .out))) _ _ (sym (c .planned .given .1) ∙ c .before .before .prepare .ensures)
 
 write-requires : tie.Need-write-requires
 write-requires c κs =
-    let at-planned = c .before .before in
-    let a = start at-planned .args in
-    let lies = ready-lies (now (a .item)) (a .a) (a .v) (a .s) (now (a .new)) (length (now (a .out))) _ _ (ready at-planned) in
-    (lies .ordered, lies .inside, ready-room (now (a .item)) (a .a) (a .v) (a .s) (now (a .new)) (length (now (a .out))) _ _ (ready at-planned))
+    let r = ready (c .before .before) in
+    (r .ordered, r .inside, r .fits)
 
 returns-2 : tie.Need-returns-2
 returns-2 c =
     let at-write = c .before .before in
     let at-planned = at-write .before .before .before in
-    let a = start at-planned .args in
-    let n = length (now (a .out)) in (
-      ready-answer (now (a .item)) (a .a) (a .v) (a .s) (now (a .new)) n _ _ (ready at-planned),
-      at-write .write .ensures ∙ ap (buffer n) (ready-bytes (now (a .item)) (a .a) (a .v) (a .s) (now (a .new)) n _ _ (ready at-planned)),
-    )
+    let r = ready at-planned in
+    (r .answer, at-write .write .ensures ∙ ap (buffer (length (now (start at-planned .args .out)))) (r .bytes))
 
 pub replace-spec : {M : Type 1} → statement M
 replace-spec =
     tie.close
-    (tie.spec
-    (λ c κs. search needs)
-    (λ c. search needs)
-    (λ c. search needs)
-    (λ c κs. search needs)
-    (λ c κs. search needs)
-    (λ c. search needs)
-    returns
-    write-requires
-    (λ c. search needs)
-    returns-2)
+    (tie.spec (λ c κs. search needs) (λ c. search needs) (λ c. search needs) (λ c κs. search needs) (λ c κs. search needs) (λ c. search needs) returns write-requires (λ c. search needs) returns-2)

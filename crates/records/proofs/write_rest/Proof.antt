@@ -1,8 +1,11 @@
 -- `records::write_rest` meets its contract: the new bytes, the rest of the record and zeros, one behind the other.
-use mathlib.Core.Path.{_∙_}
+use Prim.Native.Nat.{_≤_}
+use native.Mathlib.Omega.{arith}
+use mathlib.Core.Path.{refl, _∙_}
 use borrow.Author.Needs.{needs}
 use denote.Ref.{now}
-use Rattle.records.proofs.Writing.{rest-laid}
+use lib.ListN.{length}
+use Rattle.lent.proofs.Laying.{laid-at, laid-behind}
 use Rattle.records.proofs.write_rest.Statement.{statement}
 use Rattle.records.proofs.write_rest.Tie as tie
 
@@ -12,11 +15,9 @@ returns c =
     let at-copy2 = at-fill .before .before .before .before in
     let at-copy = at-copy2 .before .before .before .before in
     let start = at-copy .before .before .before .before .before in
-    rest-laid (now (start .args .out)) (start .args .at) (now (start .args .new)) (now (start .args .rest)) _ _ _ (start .pre)
-    (at-copy2 .copy-in2 .kept .1 .0 ∙ at-copy .copy-in .kept .1 .0)
-    (at-copy .copy-in .ensures)
-    (at-copy2 .copy-in2 .ensures)
-    (at-fill .fill .ensures)
+    let inside : start .args .at ≤ length (now (start .args .out)) = omega arith in
+    rw (at-copy2 .copy-in2 .kept .1 .0 ∙ at-copy .copy-in .kept .1 .0)
+    at (laid-behind (laid-behind (laid-at (at-copy .copy-in .ensures) refl) (laid-at (at-copy2 .copy-in2 .ensures) refl) inside) (laid-at (at-fill .fill .ensures) refl) inside .bytes)
 
 pub write-rest-spec : {M : Type 1} → statement M
 write-rest-spec =
