@@ -1,29 +1,38 @@
 -- Orders by numbers and by bytes, a byte at a time, against the definitions. Assumes nothing.
 use mathlib.Core.Path.{_≡_, refl, sym, ap, _∙_}
-use mathlib.Core.Bool.{Bool, true, false}
-use mathlib.Core.List.{[]}
+use mathlib.Core.Bool.{Bool, true, false, not}
+use mathlib.Core.Logic.{⊎-elim}
 use mathlib.Core.Option.{Option, none, some}
 use Prim.Native.Nat.{ℕ, _+_, _≤_, _<_}
 use native.Mathlib.Nat.{le-of-eq}
 use native.Mathlib.Numerals.{add-one}
 use native.Mathlib.Omega.{arith}
-use lib.Dec.{leb, ltb}
+use lib.Dec.{leb, ltb, eqb}
 use lib.ListN.{length, getD, drop, drop-of-length-le}
 use lib.Seq.{drop-cons}
-use borrow.Author.Tests.{le-ltb, ltb-true, ltb-false, eq-eqb, ne-eqb}
+use borrow.Author.Tests.{lt-ltb, le-ltb, eq-eqb, ne-eqb}
 use Rattle.paper.specs.Bytes.{Bytes}
 use Rattle.paper.specs.Sizes.{number-most}
 use Rattle.paper.specs.Refusals.{Res, given, refused, _>>_, refuse_unless_}
 use Rattle.paper.specs.Numbers.{Number as Whole, numeric, ranged, below, bytes-below, more, Order as Standing, order-by, compare-forms, compared, holds}
+use Rattle.paper.proofs.Truths.{ltb-or}
 use Rattle.codes.specs.declared.Relation.{Relation}
 use Rattle.codes.specs.Meaning.{relation-of}
 use Rattle.numbers.specs.declared.Order.{Order}
 use Rattle.numbers.specs.declared.Compared.{Compared}
 use Rattle.numbers.specs.Forms.{in-range}
 use Rattle.numbers.specs.Orders.{order-of, compared-gives, compared-refusal, numbers-order, bytes-order}
-use Rattle.numbers.specs.Scans.{rank-of, rank-test}
+use Rattle.numbers.specs.Scans.{rank-of}
 
 -- the rank stands to 1 as the relation asks
+abbrev pub rank-test : Relation → ℕ → Bool
+rank-test Relation.Equal rank = eqb rank 1
+rank-test Relation.Unequal rank = not (eqb rank 1)
+rank-test Relation.Greater rank = ltb 1 rank
+rank-test Relation.Lesser rank = ltb rank 1
+rank-test Relation.AtLeast rank = leb 1 rank
+rank-test Relation.AtMost rank = leb rank 1
+
 pub rank-holds : (r : Relation) (o : Order) → rank-test r (rank-of o) ≡ holds (relation-of r) (order-of o)
 unfolding holds relation-of order-of
 rank-holds Relation.Equal = elim [ Order.Less ↦ refl | Order.Same ↦ refl | Order.More ↦ refl ]
@@ -52,22 +61,28 @@ module _ (s t : Bytes) (i : ℕ) where
 
   pub ended : length s ≡ i → i ≤ length t → order-by (ltb (length s) (length t)) (ltb (length t) (length s)) ≡ bytes-order (drop i s) (drop i t)
   unfolding bytes-order bytes-below
-  ended e l = rw (drop-of-length-le s (le-of-eq e)) (go (ltb (length s) (length t)) refl)
-    where
-      go : (a : Bool) → ltb (length s) (length t) ≡ a
-          → order-by (ltb (length s) (length t)) (ltb (length t) (length s)) ≡ order-by (bytes-below [] (drop i t)) (bytes-below (drop i t) [])
-      go true h = rw (h, drop-cons t i 0 (omega (arith, ltb-true (length s) (length t) h)))
-      go false h =
-          rw (h, le-ltb (length t) (length s) (omega arith), drop-of-length-le t {i = i} (omega (arith, ltb-false (length s) (length t) h)))
+  ended e l =
+      ⊎-elim
+      (λ h. rw (drop-of-length-le s (le-of-eq e), lt-ltb (length s) (length t) h, drop-cons t i 0 (omega arith)))
+      (λ h. rw (
+        drop-of-length-le s (le-of-eq e),
+        le-ltb (length s) (length t) h,
+        le-ltb (length t) (length s) (omega arith),
+        drop-of-length-le t {i = i} (omega arith),
+      ))
+      (ltb-or (length s) (length t))
 
 -- by the forms of both
 module _ (second top : Bytes) where
-  -- "else by bytes"
+  -- "else by bytes"; "as numbers when both have numeric form"; "out of range is 10 wherever it is read as a number"
+  abbrev by-forms : Option Whole → Option Whole → Res Standing
+  by-forms = compare-forms second top
+
   pub second-apart : none ≡ in-range (numeric second) → given (bytes-order second top) ≡ compared second top
   unfolding compared bytes-order
   second-apart h = go (numeric second) h
     where
-      go : (x : Option Whole) → none ≡ in-range x → given (bytes-order second top) ≡ compare-forms second top x (numeric top)
+      go : (x : Option Whole) → none ≡ in-range x → given (bytes-order second top) ≡ by-forms x (numeric top)
       go none h = refl
       go (some x) h = cc
 
@@ -75,14 +90,12 @@ module _ (second top : Bytes) where
   unfolding compared bytes-order
   top-apart h = go (numeric second) (numeric top) h
     where
-      go : (x y : Option Whole) → none ≡ in-range y → given (bytes-order second top) ≡ compare-forms second top x y
+      go : (x y : Option Whole) → none ≡ in-range y → given (bytes-order second top) ≡ by-forms x y
       go none y h = refl
       go (some x) none h = refl
       go (some x) (some y) h = cc
 
-  -- "as numbers when both have numeric form"; "out of range is 10 wherever it is read as a number"
-  pub both-numeric : {v w : Res Whole} → some v ≡ in-range (numeric second) → some w ≡ in-range (numeric top)
-      → numbers-order v w ≡ compared second top
+  pub both-numeric : {v w : Res Whole} → some v ≡ in-range (numeric second) → some w ≡ in-range (numeric top) → numbers-order v w ≡ compared second top
   unfolding compared numbers-order ranged
   both-numeric {v} {w} p q = go (numeric second) (numeric top) p q
     where
@@ -92,16 +105,13 @@ module _ (second top : Bytes) where
       in-turn x y true false = refl
       in-turn x y true true = refl
 
-      tested : (x y : Whole) → numbers-order (ranged x) (ranged y) ≡ compare-forms second top (some x) (some y)
-      tested x y = in-turn x y (leb (x .size) number-most) (leb (y .size) number-most)
-
-      go : (x y : Option Whole) → some v ≡ in-range x → some w ≡ in-range y → numbers-order v w ≡ compare-forms second top x y
+      go : (x y : Option Whole) → some v ≡ in-range x → some w ≡ in-range y → numbers-order v w ≡ by-forms x y
       go none y p q = cc
       go (some x) none p q = cc
       go (some x) (some y) p q =
           let l : v ≡ ranged x = cc in
           let m : w ≡ ranged y = cc in
-          rw (l, m) (tested x y)
+          rw (l, m) (in-turn x y (leb (x .size) number-most) (leb (y .size) number-most))
 
 -- the number of a refusal is passed up
 pub compared-passes : {r : Compared} {v : Res Standing} {n m : ℕ} → compared-gives r ≡ v → r ≡ Compared.Refused n → m ≡ compared-refusal r → v ≡ refused m

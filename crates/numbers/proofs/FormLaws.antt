@@ -1,6 +1,5 @@
 -- What each case of a reckoning says of the definitions, and what a number code (ML, MR and D alike) gives by it. Assumes nothing.
 use mathlib.Core.Path.{_≡_, refl, sym, ap, _∙_}
-use mathlib.Core.Bool.{Bool, true, false}
 use mathlib.Core.List.{[], _∷_}
 use mathlib.Core.Option.{Option, none, some}
 use Prim.Native.Nat.{ℕ, _≤_}
@@ -10,9 +9,10 @@ use lib.ListN.{length}
 use borrow.Author.Tests.{leb-true}
 use Rattle.paper.specs.Bytes.{Bytes}
 use Rattle.paper.specs.Sizes.{number-most}
-use Rattle.paper.specs.Refusals.{Res, given, refused, _>>=_, _>>_, refuse_unless_, out-of-range}
+use Rattle.paper.specs.Refusals.{Res, given, refused, _>>=_, out-of-range}
 use Rattle.paper.specs.Numbers.{Number as Whole, numeric, ranged}
 use Rattle.paper.specs.Masks.{on-number, number-gives}
+use Rattle.paper.proofs.Predicates.{Holds, refuses, held-by, holds-unless}
 use Rattle.numbers.specs.declared.Number.{Number}
 use Rattle.numbers.specs.declared.Reckoned.{Reckoned}
 use Rattle.numbers.specs.Forms.{whole, reckoned-gives, reckoned-refusal, in-range, convertible}
@@ -28,17 +28,16 @@ module _ {r : Reckoned} {v : Res Whole} (e : reckoned-gives r ≡ v) where
   passed-up f k = sym e ∙ ap reckoned-gives f ∙ ap refused (sym (rw f at k))
 
 -- a number that was ranged is in range
-pub ranged-size : (x y : Whole) → given y ≡ ranged x → y .size ≤ number-most
+abbrev pub Small : Whole → Type 0
+Small x = x .size ≤ number-most
+
+pub ranged-small : (x : Whole) → Holds Small (ranged x)
 unfolding ranged
-ranged-size x y h = go (leb (x .size) number-most) refl h
-  where
-    go : (t : Bool) → leb (x .size) number-most ≡ t → given y ≡ (refuse out-of-range unless t >> given x) → y .size ≤ number-most
-    go true l e = let same : y ≡ x = cc in rw same (leb-true (x .size) number-most l)
-    go false l e = let z : _≡_ {A = ℕ} 0 1 = cc in absurd (omega arith)
+ranged-small x = holds-unless out-of-range (leb (x .size) number-most) x (leb-true (x .size) number-most)
 
 pub convertible-size : (o : Option Whole) (x : Whole) → convertible o ≡ given x → x .size ≤ number-most
-convertible-size none x h = let z : _≡_ {A = ℕ} 0 1 = cc in absurd (omega arith)
-convertible-size (some y) x h = ranged-size y x (sym h)
+convertible-size none x h = held-by {P = Small} refuses h
+convertible-size (some y) x h = held-by (ranged-small y) h
 
 -- the answers of `convertible`
 pub numeric-converts : (o : Option Whole) {v : Res Whole} → some v ≡ in-range o → v ≡ convertible o

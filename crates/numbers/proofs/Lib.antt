@@ -1,4 +1,3 @@
-pub mod Table
 pub mod ReadingLaws
 pub mod FormLaws
 pub mod WritingLaws

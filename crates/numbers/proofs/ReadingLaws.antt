@@ -1,21 +1,21 @@
 -- Numeric form by a scan that holds a size over the limit just over it, against the definition. Assumes nothing.
-use mathlib.Core.Path.{_≡_, refl, sym, ap, _∙_}
+use mathlib.Core.Path.{_≡_, refl, sym, _∙_}
 use mathlib.Core.Bool.{Bool, true, false}
 use mathlib.Core.List.{[], _∷_}
-use mathlib.Core.Logic.{_⊎_, inl, inr}
+use mathlib.Core.Logic.{_⊎_, inl, inr, ⊎-elim}
 use mathlib.Core.Option.{none, some}
 use Prim.Native.Nat.{ℕ, _+_, _*_, _≤_, _<_, min}
 use native.Mathlib.Nat.{not-suc-le-zero, le-of-eq}
 use native.Mathlib.Numerals.{add-one}
 use native.Mathlib.Omega.{arith}
-use lib.Dec.{leb}
 use lib.ListN.{length, getD, drop, drop-of-length-le}
 use lib.Seq.{drop-cons}
-use borrow.Author.Tests.{le-leb, lt-leb, leb-true, leb-false, eq-eqb, ne-eqb}
+use borrow.Author.Tests.{le-leb, lt-leb, eq-eqb, ne-eqb}
 use Rattle.paper.specs.Bytes.{Bytes, if_then_else_, is-digit, digit-value}
 use Rattle.paper.specs.Sizes.{number-most}
 use Rattle.paper.specs.Refusals.{given, refused}
 use Rattle.paper.specs.Numbers.{Number as Whole, signed, value, digits-alone, numeric, ranged}
+use Rattle.paper.proofs.Truths.{ltb-or}
 use Rattle.numbers.specs.Forms.{in-range}
 use Rattle.numbers.specs.Scans.{value-form}
 
@@ -35,11 +35,9 @@ over negative n m (d ∷ ds) a b =
 
 held : (negative : Bool) (n : ℕ) (bs : Bytes)
     → value-form negative (value (min n (number-most + 1)) bs) ≡ value-form negative (value n bs)
-held negative n bs = go (leb n number-most) refl
-  where
-    go : (t : Bool) → leb n number-most ≡ t → value-form negative (value (min n (number-most + 1)) bs) ≡ value-form negative (value n bs)
-    go true e = ap (λ (k : ℕ). value-form negative (value k bs)) (omega (arith, leb-true n number-most e))
-    go false e = over negative (min n (number-most + 1)) n bs (omega (arith, leb-false n number-most e)) (leb-false n number-most e)
+held negative n bs =
+    ⊎-elim (λ l. over negative (min n (number-most + 1)) n bs (omega arith) l) (λ l. let k : min n (number-most + 1) ≡ n = omega arith in rw k)
+    (ltb-or number-most n)
 
 -- a turn of the scan: a digit goes in, another byte ends it
 pub digit-goes : (negative : Bool) (s : Bytes) (n i : ℕ) → i < length s → 48 ≤ getD s i 0 → getD s i 0 ≤ 57

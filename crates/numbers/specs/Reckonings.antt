@@ -1,26 +1,20 @@
--- What reckoning gives before it is text: proof furniture.
-use Prim.Native.Nat.{_^_}
-use lib.Dec.{eqb}
+-- What reckoning gives before it is text, by the paper's own operations: proof furniture.
 use Rattle.paper.specs.Bytes.{Bytes}
-use Rattle.paper.specs.Refusals.{Res, _>>=_, _>>_, refuse_when_, zero-divisor}
-use Rattle.paper.specs.Numbers.{Number as Whole, natural, ranged, number, plus, negated, times, quotient, remainder}
+use Rattle.paper.specs.Refusals.{Res, given, _>>=_}
+use Rattle.paper.specs.Numbers.{Number as Whole, ranged, number, plus, negated, quotient, remainder, divided, multiplied}
 use Rattle.codes.specs.declared.Arithmetic.{Arithmetic}
 
--- a number over another: "Range comes before 11."
-unfoldable pub over : (Whole → Whole → Whole) → Whole → Whole → Res Whole
-over f x y = do
-  refuse zero-divisor when eqb (y .size) 0
-  ranged (f x y)
+-- what two numbers in range give
+unfoldable pub operated : Arithmetic → Whole → Whole → Res Whole
+operated (Arithmetic.Multiply n) x y = multiplied n x y
+operated Arithmetic.Divide x y = divided quotient x y
+operated Arithmetic.Rest x y = divided remainder x y
+operated Arithmetic.Add x y = given (plus x y)
+operated Arithmetic.Subtract x y = given (plus x (negated y))
 
--- what two numbers in range give, in range
+-- the same in range
 unfoldable pub reckoning : Arithmetic → Whole → Whole → Res Whole
-reckoning (Arithmetic.Multiply n) x y = do
-  p ← ranged (times x y)
-  ranged (quotient p (natural (10 ^ n)))
-reckoning Arithmetic.Divide x y = over quotient x y
-reckoning Arithmetic.Rest x y = over remainder x y
-reckoning Arithmetic.Add x y = ranged (plus x y)
-reckoning Arithmetic.Subtract x y = ranged (plus x (negated y))
+reckoning op x y = operated op x y >>= ranged
 
 -- what two entries give as numbers
 unfoldable pub calculation : Arithmetic → Bytes → Bytes → Res Whole

@@ -11,8 +11,10 @@ use codes::Relation;
 use paper::Given;
 use paper::Limit;
 ghost use mathlib.Core.Path.{_≡_};
+ghost use mathlib.Core.List.{[], _∷_};
 ghost use Prim.Native.Nat.{_≤_, min};
 ghost use lib.ListN.{length, take, drop};
+ghost use Rattle.paper.specs.Bytes.{if_then_else_};
 ghost use Rattle.paper.specs.Sizes.{number-digits, entry-most};
 ghost use Rattle.paper.specs.Refusals.{given};
 ghost use Rattle.paper.specs.Answers.{given-of, written};
@@ -21,13 +23,13 @@ ghost use Rattle.paper.specs.Steps.{limited};
 ghost use Rattle.codes.specs.Meaning.{relation-of, arithmetic-of, operator-of};
 ghost use Rattle.numbers.specs.Forms.{whole};
 ghost use Rattle.numbers.specs.Operators.{scales, scale-of};
-ghost use Rattle.numbers.specs.Scans.{truth-byte};
 
 // What the second entry and the top give, at the front of `out`.
 pub fn binary(op: Operator, second: &[u8], top: &[u8], out: &mut [u8]) -> Given
     requires { ⌜ (scale-of op ≤ number-digits) × (entry-most ≤ length (now out)) ⌝ }
     ensures { λ r. ⌜ r ≡ given-of (limited entry-most (binary-gives (operator-of op) (now (second .entry)) (now (top .entry)))) ⌝ }
-    ensures { λ _. ⌜ now (out .exit) ≡ written (now (out .entry)) (limited entry-most (binary-gives (operator-of op) (now (second .entry)) (now (top .entry)))) ⌝ }
+    ensures { λ _. ⌜ now (out .exit)
+        ≡ written (now (out .entry)) (limited entry-most (binary-gives (operator-of op) (now (second .entry)) (now (top .entry)))) ⌝ }
 {
     match op {
         Operator::Arithmetic(a) => compute(a, second, top, out),
@@ -40,7 +42,8 @@ pub fn binary(op: Operator, second: &[u8], top: &[u8], out: &mut [u8]) -> Given
 fn compute(op: Arithmetic, second: &[u8], top: &[u8], out: &mut [u8]) -> Given
     requires { ⌜ (scales op ≤ number-digits) × (entry-most ≤ length (now out)) ⌝ }
     ensures { λ r. ⌜ r ≡ given-of (limited entry-most (binary-gives (arithmetic-of op) (now (second .entry)) (now (top .entry)))) ⌝ }
-    ensures { λ _. ⌜ now (out .exit) ≡ written (now (out .entry)) (limited entry-most (binary-gives (arithmetic-of op) (now (second .entry)) (now (top .entry)))) ⌝ }
+    ensures { λ _. ⌜ now (out .exit)
+        ≡ written (now (out .entry)) (limited entry-most (binary-gives (arithmetic-of op) (now (second .entry)) (now (top .entry)))) ⌝ }
 {
     let reckoned = reckoning::calculate(op, second, top);
     let Reckoned::Number(x) = reckoned else {
@@ -69,7 +72,8 @@ fn concatenate(second: &[u8], top: &[u8], out: &mut [u8]) -> Given
 fn relate(relation: Relation, second: &[u8], top: &[u8], out: &mut [u8]) -> Given
     requires { ⌜ entry-most ≤ length (now out) ⌝ }
     ensures { λ r. ⌜ r ≡ given-of (limited entry-most (binary-gives (relate (relation-of relation)) (now (second .entry)) (now (top .entry)))) ⌝ }
-    ensures { λ _. ⌜ now (out .exit) ≡ written (now (out .entry)) (limited entry-most (binary-gives (relate (relation-of relation)) (now (second .entry)) (now (top .entry)))) ⌝ }
+    ensures { λ _. ⌜ now (out .exit)
+        ≡ written (now (out .entry)) (limited entry-most (binary-gives (relate (relation-of relation)) (now (second .entry)) (now (top .entry)))) ⌝ }
 {
     let compared = comparing::compare(second, top);
     let Compared::Ordered(order) = compared else {
@@ -80,7 +84,7 @@ fn relate(relation: Relation, second: &[u8], top: &[u8], out: &mut [u8]) -> Give
 }
 
 fn truth(holds: bool) -> u8
-    ensures { λ r. ⌜ r ≡ truth-byte holds ⌝ }
+    ensures { λ r. ⌜ r ∷ [] ≡ if holds then 49 ∷ [] else 48 ∷ [] ⌝ }
 {
     if holds { b'1' } else { b'0' }
 }
@@ -89,7 +93,8 @@ fn truth(holds: bool) -> u8
 pub fn substring(third: &[u8], second: &[u8], top: &[u8], out: &mut [u8]) -> Given
     requires { ⌜ entry-most ≤ length (now out) ⌝ }
     ensures { λ r. ⌜ r ≡ given-of (limited entry-most (substring-gives (now (third .entry)) (now (second .entry)) (now (top .entry)))) ⌝ }
-    ensures { λ _. ⌜ now (out .exit) ≡ written (now (out .entry)) (limited entry-most (substring-gives (now (third .entry)) (now (second .entry)) (now (top .entry)))) ⌝ }
+    ensures { λ _. ⌜ now (out .exit)
+        ≡ written (now (out .entry)) (limited entry-most (substring-gives (now (third .entry)) (now (second .entry)) (now (top .entry)))) ⌝ }
 {
     let from = reckoning::operand(second);
     let Reckoned::Number(start) = from else {
@@ -106,7 +111,8 @@ pub fn substring(third: &[u8], second: &[u8], top: &[u8], out: &mut [u8]) -> Giv
 fn cut(third: &[u8], start: Number, count: Number, out: &mut [u8]) -> Given
     requires { ⌜ entry-most ≤ length (now out) ⌝ }
     ensures { λ r. ⌜ r ≡ given-of (limited entry-most (given (take (taken (whole count)) (drop (skipped (whole start)) (now (third .entry)))))) ⌝ }
-    ensures { λ _. ⌜ now (out .exit) ≡ written (now (out .entry)) (limited entry-most (given (take (taken (whole count)) (drop (skipped (whole start)) (now (third .entry)))))) ⌝ }
+    ensures { λ _. ⌜ now (out .exit)
+        ≡ written (now (out .entry)) (limited entry-most (given (take (taken (whole count)) (drop (skipped (whole start)) (now (third .entry)))))) ⌝ }
 {
     let from = least(skipped(start), third.len());
     let size = least(taken(count), third.len() - from);

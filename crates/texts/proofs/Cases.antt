@@ -7,8 +7,7 @@ use lib.Dec.{eqb}
 use borrow.Author.Tests.{eqb-true}
 use Rattle.paper.specs.Bytes.{if_then_else_, is-letter, is-upper, is-lower}
 use Rattle.paper.specs.Texts.{raised, lowered}
-use Rattle.paper.proofs.Calendar.{both}
-use Rattle.numbers.proofs.Table.{below, passed}
+use Rattle.paper.proofs.Truths.{both, below, passed}
 
 -- set in a small letter, clear in a capital; any other byte has one form
 cased-by-bit : ℕ → Bool

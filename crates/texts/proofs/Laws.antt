@@ -9,6 +9,7 @@ use lib.ListN.{length, take, drop, getD, length-take, length-drop, drop-of-lengt
 use Rattle.paper.specs.Bytes.{Bytes, if_then_else_, is-letter, only}
 use Rattle.paper.specs.Refusals.{given}
 use Rattle.paper.specs.Texts.{plain-gives, raised, lowered, titled}
+use Rattle.paper.proofs.Truths.{chosen}
 use Rattle.lent.proofs.Scans.{next}
 use Rattle.texts.specs.Codes.{kept-code, kept, cased-code, turned}
 use Rattle.texts.specs.declared.Class.{Class}
@@ -20,8 +21,7 @@ pub part-fits : (n k : ℕ) (e : Bytes) → length (take n (drop k e)) ≤ lengt
 part-fits n k e = omega (arith, length-take n (drop k e), length-drop k e)
 
 pub either-fits : (t : Bool) (e : Bytes) → length (if t then e else []) ≤ length e
-either-fits true e = le-refl (length e)
-either-fits false e = omega arith
+either-fits t e = chosen (λ bs. length bs ≤ length e) t {x = e} {y = []} (λ _. le-refl (length e)) (λ _. omega arith)
 
 -- ---- MCA, MC/A, MCN, MC/N
 
@@ -42,11 +42,9 @@ module _ (p : ℕ → Bool) where
   pub only-fits : (bs : Bytes) → length (only p bs) ≤ length bs
   unfolding only
   only-fits [] = le-refl 0
-  only-fits (b ∷ bs) = by-test (p b) (only-fits bs)
-    where
-      by-test : (t : Bool) → length (only p bs) ≤ length bs → length (if t then b ∷ only p bs else only p bs) ≤ suc (length bs)
-      by-test true h = omega arith
-      by-test false h = omega arith
+  only-fits (b ∷ bs) =
+      let fits = only-fits bs in
+      chosen (λ l. length l ≤ suc (length bs)) (p b) {x = b ∷ only p bs} {y = only p bs} (λ _. omega arith) (λ _. omega arith)
 
 pub keep-gives : (k : Class) (e : Bytes) → plain-gives (kept-code k) e ≡ given (only (kept k) e)
 unfolding plain-gives kept-code kept

@@ -26,65 +26,72 @@ use Rattle.texts.proofs.part.skip_fields.Reads as skip-fields
 use Rattle.texts.proofs.part.take_fields.Reads as take-fields
 use Rattle.texts.proofs.part.admitted.Reads as admitted
 
+-- the same answer; the same answer and the same output
+abbrev Settled : {A R E : Type 0} → (A → R → E → Type 0) → Type 0
+Settled {A} {R} {E} post = (a : A) (r r′ : R) (e e′ : E) → post a r e → post a r′ e′ → r ≡ r′
+
 same : {A B : Type 0} {r r′ s : A} {o o′ t : B} → (r ≡ s) × (o ≡ t) → (r′ ≡ s) × (o′ ≡ t) → (r ≡ r′) × (o ≡ o′)
 same p q = (p .0 ∙ sym (q .0), p .1 ∙ sym (q .1))
 
-recase-settled : (κs : Lfts 2) → (a : _) (r r′ : _) (e e′ : _) → recase.Post κs a r e → recase.Post κs a r′ e′ → (r ≡ r′) × (e .1 .1 .0 .now ≡ e′ .1 .1 .0 .now)
+recase-settled : (κs : Lfts 2) (a : _) (r r′ : _) (e e′ : _) → recase.Post κs a r e → recase.Post κs a r′ e′ → (r ≡ r′) × (e .1 .1 .0 .now ≡ e′ .1 .1 .0 .now)
 recase-settled κs a r r′ e e′ p q = same p q
 
-keep-settled : (κs : Lfts 2) → (a : _) (r r′ : _) (e e′ : _) → keep.Post κs a r e → keep.Post κs a r′ e′ → (r ≡ r′) × (e .1 .1 .0 .now ≡ e′ .1 .1 .0 .now)
+keep-settled : (κs : Lfts 2) (a : _) (r r′ : _) (e e′ : _) → keep.Post κs a r e → keep.Post κs a r′ e′ → (r ≡ r′) × (e .1 .1 .0 .now ≡ e′ .1 .1 .0 .now)
 keep-settled κs a r r′ e e′ p q = same p q
 
-extract-settled : (κs : Lfts 2) → (a : _) (r r′ : _) (e e′ : _) → extract.Post κs a r e → extract.Post κs a r′ e′ → (r ≡ r′) × (e .1 .1 .1 .0 .now ≡ e′ .1 .1 .1 .0 .now)
+extract-settled : (κs : Lfts 2) (a : _) (r r′ : _) (e e′ : _) → extract.Post κs a r e → extract.Post κs a r′ e′
+    → (r ≡ r′) × (e .1 .1 .1 .0 .now ≡ e′ .1 .1 .1 .0 .now)
 extract-settled κs a r r′ e e′ p q = same p q
 
-measure-settled : (κs : Lfts 2) → (a : _) (r r′ : _) (e e′ : _) → measure.Post κs a r e → measure.Post κs a r′ e′ → (r ≡ r′) × (e .1 .0 .now ≡ e′ .1 .0 .now)
+measure-settled : (κs : Lfts 2) (a : _) (r r′ : _) (e e′ : _) → measure.Post κs a r e → measure.Post κs a r′ e′ → (r ≡ r′) × (e .1 .0 .now ≡ e′ .1 .0 .now)
 measure-settled κs a r r′ e e′ p q = same p q
 
-admit-settled : (κs : Lfts 2) → (a : _) (r r′ : _) (e e′ : _) → admit.Post κs a r e → admit.Post κs a r′ e′ → (r ≡ r′) × (e .1 .1 .1 .0 .now ≡ e′ .1 .1 .1 .0 .now)
+admit-settled : (κs : Lfts 2) (a : _) (r r′ : _) (e e′ : _) → admit.Post κs a r e → admit.Post κs a r′ e′
+    → (r ≡ r′) × (e .1 .1 .1 .0 .now ≡ e′ .1 .1 .1 .0 .now)
 admit-settled κs a r r′ e e′ p q = same p q
 
-group-settled : (κs : Lfts 2) → (a : _) (r r′ : _) (e e′ : _) → group.Post κs a r e → group.Post κs a r′ e′ → (r ≡ r′) × (e .1 .1 .1 .1 .0 .now ≡ e′ .1 .1 .1 .1 .0 .now)
+group-settled : (κs : Lfts 2) (a : _) (r r′ : _) (e e′ : _) → group.Post κs a r e → group.Post κs a r′ e′
+    → (r ≡ r′) × (e .1 .1 .1 .1 .0 .now ≡ e′ .1 .1 .1 .1 .0 .now)
 group-settled κs a r r′ e e′ p q = same p q
 
-hex-settled : (κs : Lfts 2) → (a : _) (r r′ : _) (e e′ : _) → hex.Post κs a r e → hex.Post κs a r′ e′ → (r ≡ r′) × (e .1 .0 .now ≡ e′ .1 .0 .now)
+hex-settled : (κs : Lfts 2) (a : _) (r r′ : _) (e e′ : _) → hex.Post κs a r e → hex.Post κs a r′ e′ → (r ≡ r′) × (e .1 .0 .now ≡ e′ .1 .0 .now)
 hex-settled κs a r r′ e e′ p q = same p q
 
-unhex-settled : (κs : Lfts 2) → (a : _) (r r′ : _) (e e′ : _) → unhex.Post κs a r e → unhex.Post κs a r′ e′ → (r ≡ r′) × (e .1 .0 .now ≡ e′ .1 .0 .now)
+unhex-settled : (κs : Lfts 2) (a : _) (r r′ : _) (e e′ : _) → unhex.Post κs a r e → unhex.Post κs a r′ e′ → (r ≡ r′) × (e .1 .0 .now ≡ e′ .1 .0 .now)
 unhex-settled κs a r r′ e e′ p q = same p q
 
 -- within the crate: an answer on one byte
-is-upper-settled : (κs : Lfts 0) → (a : _) (r r′ : _) (e e′ : _) → is-upper.Post κs a r e → is-upper.Post κs a r′ e′ → r ≡ r′
+is-upper-settled : (κs : Lfts 0) → Settled (is-upper.Post κs)
 is-upper-settled κs a r r′ e e′ p q = p ∙ sym q
 
-is-lower-settled : (κs : Lfts 0) → (a : _) (r r′ : _) (e e′ : _) → is-lower.Post κs a r e → is-lower.Post κs a r′ e′ → r ≡ r′
+is-lower-settled : (κs : Lfts 0) → Settled (is-lower.Post κs)
 is-lower-settled κs a r r′ e e′ p q = p ∙ sym q
 
-is-letter-settled : (κs : Lfts 0) → (a : _) (r r′ : _) (e e′ : _) → is-letter.Post κs a r e → is-letter.Post κs a r′ e′ → r ≡ r′
+is-letter-settled : (κs : Lfts 0) → Settled (is-letter.Post κs)
 is-letter-settled κs a r r′ e e′ p q = p ∙ sym q
 
-is-digit-settled : (κs : Lfts 0) → (a : _) (r r′ : _) (e e′ : _) → is-digit.Post κs a r e → is-digit.Post κs a r′ e′ → r ≡ r′
+is-digit-settled : (κs : Lfts 0) → Settled (is-digit.Post κs)
 is-digit-settled κs a r r′ e e′ p q = p ∙ sym q
 
-raise-settled : (κs : Lfts 0) → (a : _) (r r′ : _) (e e′ : _) → raise.Post κs a r e → raise.Post κs a r′ e′ → r ≡ r′
+raise-settled : (κs : Lfts 0) → Settled (raise.Post κs)
 raise-settled κs a r r′ e e′ p q = p ∙ sym q
 
-lower-settled : (κs : Lfts 0) → (a : _) (r r′ : _) (e e′ : _) → lower.Post κs a r e → lower.Post κs a r′ e′ → r ≡ r′
+lower-settled : (κs : Lfts 0) → Settled (lower.Post κs)
 lower-settled κs a r r′ e e′ p q = p ∙ sym q
 
-index-settled : (κs : Lfts 0) → (a : _) (r r′ : _) (e e′ : _) → index.Post κs a r e → index.Post κs a r′ e′ → r ≡ r′
+index-settled : (κs : Lfts 0) → Settled (index.Post κs)
 index-settled κs a r r′ e e′ p q = p ∙ sym q
 
-digit-settled : (κs : Lfts 0) → (a : _) (r r′ : _) (e e′ : _) → digit.Post κs a r e → digit.Post κs a r′ e′ → r ≡ r′
+digit-settled : (κs : Lfts 0) → Settled (digit.Post κs)
 digit-settled κs a r r′ e e′ p q = p ∙ sym q
 
-is-other-settled : (κs : Lfts 0) → (a : _) (r r′ : _) (e e′ : _) → is-other.Post κs a r e → is-other.Post κs a r′ e′ → r ≡ r′
+is-other-settled : (κs : Lfts 0) → Settled (is-other.Post κs)
 is-other-settled κs a r r′ e e′ p q = p ∙ sym q
 
-value-settled : (κs : Lfts 0) → (a : _) (r r′ : _) (e e′ : _) → value.Post κs a r e → value.Post κs a r′ e′ → r ≡ r′
+value-settled : (κs : Lfts 0) → Settled (value.Post κs)
 value-settled κs a r r′ e e′ p q = p ∙ sym q
 
-byte-settled : (κs : Lfts 0) → (a : _) (r r′ : _) (e e′ : _) → byte.Post κs a r e → byte.Post κs a r′ e′ → r ≡ r′
+byte-settled : (κs : Lfts 0) → Settled (byte.Post κs)
 byte-settled κs a r r′ e e′ p q = p ∙ sym q
 
 -- within the crate: a part of the element, by its bytes

@@ -1,6 +1,6 @@
 -- MX and MY: their scans, a byte or a pair of hex digits a turn, and that MY gives back what MX made.
-use mathlib.Core.Path.{_≡_, refl, sym, ap, _∙_}
-use mathlib.Core.Bool.{Bool, true, false, not, _||_, true≢false}
+use mathlib.Core.Path.{_≡_, refl, ap, _∙_}
+use mathlib.Core.Bool.{Bool, true, false, not, _||_}
 use mathlib.Core.List.{[], _∷_}
 use mathlib.Core.Option.{Option, none, some}
 use Prim.Native.Nat.{ℕ, suc, _+_, _-_, _*_, _/_, _%_, _≤_, _<_}
@@ -11,15 +11,15 @@ use lib.ListN.{length, drop, getD, length-drop, drop-of-length-le}
 use borrow.Author.Tests.{ltb-true, ltb-false}
 use Rattle.paper.specs.Bytes.{Bytes, if_then_else_, is-digit, any, within}
 use Rattle.paper.specs.Sizes.{is-mark, entry-most}
-use Rattle.paper.specs.Refusals.{Res, given, refused, _>>=_, _>>_, refuse_when_, not-convertible, mark-from-hex}
+use Rattle.paper.specs.Refusals.{given, refused, not-convertible, mark-from-hex}
 use Rattle.paper.specs.Codes.{Plain}
-use Rattle.paper.specs.Texts.{plain-gives, hex-digit, hexed, hex-value, unhexed}
-use Rattle.paper.specs.Steps.{limited}
+use Rattle.paper.specs.Texts.{plain-gives, hex-digit, hexed, hex-value, hex-pair, unhexed}
 use Rattle.texts.specs.Codes.{outcome}
 use Rattle.texts.specs.Scans.{is-none, is-other, worth, decoded}
+use Rattle.paper.proofs.Truths.{neither, chosen}
+use Rattle.paper.proofs.Limits.{limited-refused}
 use Rattle.paper.proofs.Ranges.{within-yes, within-above, within-true}
 use Rattle.lent.proofs.Scans.{next}
-use Rattle.texts.proofs.Writing.{passed-on}
 
 -- ---- MX
 
@@ -39,41 +39,31 @@ hexed-length (b ∷ bs) = omega (arith, hexed-length bs)
 -- ---- one hex digit
 
 -- the three ranges of a hex digit
-pub is-other-of : (t u w : Bool) (x y z : ℕ) → not (t || u || w) ≡ is-none (if t then some x else (if u then some y else (if w then some z else none)))
-is-other-of true u w x y z = refl
-is-other-of false true w x y z = refl
-is-other-of false false true x y z = refl
-is-other-of false false false x y z = refl
+abbrev by-range : ℕ → Bool → Bool → Bool → Option ℕ
+by-range b t u w = if t then some (b - 48) else (if u then some (b - 65 + 10) else (if w then some (b - 97 + 10) else none))
 
-halves : (b high letter v : ℕ) → b % 16 ≡ b - high * 16 → b / 64 ≡ letter → (b - high * 16 + letter * 9) % 16 ≡ v → worth b ≡ v
-halves b high letter v low top e = rw (low, top) e
+pub is-other-of : (b : ℕ) (t u w : Bool) → not (t || u || w) ≡ is-none (by-range b t u w)
+is-other-of b true u w = refl
+is-other-of b false true w = refl
+is-other-of b false false true = refl
+is-other-of b false false false = refl
 
 -- what a hex digit stands for, by its own bits
-worth-of : (b : ℕ) {v : ℕ} → hex-value b ≡ some v → worth b ≡ v
-unfolding hex-value is-digit
-worth-of b {v} e = go (within 48 57 b) refl (within 65 70 b) refl (within 97 102 b) refl e
+halves : (b high letter v : ℕ) → b % 16 ≡ b - high * 16 → b / 64 ≡ letter → v ≡ (b - high * 16 + letter * 9) % 16 → some v ≡ some (worth b)
+halves b high letter v low top e = rw (low, top) (ap some e)
+
+digit-worth : (b : ℕ) → is-other b ≡ false → hex-value b ≡ some (worth b)
+unfolding is-other hex-value is-digit
+digit-worth b e = go (within 48 57 b) refl (within 65 70 b) refl (within 97 102 b) refl e
   where
     go : (t : Bool) → within 48 57 b ≡ t → (u : Bool) → within 65 70 b ≡ u → (w : Bool) → within 97 102 b ≡ w
-        → if t then some (b - 48) else (if u then some (b - 65 + 10) else (if w then some (b - 97 + 10) else none)) ≡ some v → worth b ≡ v
-    go true s u p w q r =
-        let n : b - 48 ≡ v = cc in
-        let (least, most) = within-true 48 57 b s in
-        halves b 3 0 v (omega arith) (omega arith) (omega arith)
-    go false s true p w q r =
-        let n : b - 65 + 10 ≡ v = cc in
-        let (least, most) = within-true 65 70 b p in
-        halves b 4 1 v (omega arith) (omega arith) (omega arith)
-    go false s false p true q r =
-        let n : b - 97 + 10 ≡ v = cc in
-        let (least, most) = within-true 97 102 b q in
-        halves b 6 1 v (omega arith) (omega arith) (omega arith)
-    go false s false p false q r = let z : _≡_ {A = ℕ} 0 1 = cc in omega arith
+        → is-none (by-range b t u w) ≡ false → by-range b t u w ≡ some (worth b)
+    go true s u p w q r = let (least, most) = within-true 48 57 b s in halves b 3 0 _ (omega arith) (omega arith) (omega arith)
+    go false s true p w q r = let (least, most) = within-true 65 70 b p in halves b 4 1 _ (omega arith) (omega arith) (omega arith)
+    go false s false p true q r = let (least, most) = within-true 97 102 b q in halves b 6 1 _ (omega arith) (omega arith) (omega arith)
+    go false s false p false q r = cc
 
 -- ---- MY
-
-no-bytes : unhexed [] ≡ given []
-unfolding unhexed
-no-bytes = refl
 
 -- the bytes at i and i + 1, and what follows them
 next-pair : (e : Bytes) (i : ℕ) → i + 1 < length e → drop i e ≡ getD e i 0 ∷ getD e (i + 1) 0 ∷ drop (i + 2) e
@@ -100,56 +90,43 @@ decoded-fits [] = le-refl 0
 decoded-fits (h ∷ []) = omega arith
 decoded-fits (h ∷ l ∷ bs) = omega (arith, decoded-fits bs)
 
--- a pair before the rest: two hex digits spell a byte, and what refuses the rest refuses all
-both-digits : (h l : ℕ) {x y : ℕ} (bs : Bytes) {rest : Bytes} → hex-value h ≡ some x → hex-value l ≡ some y → unhexed bs ≡ given rest
-    → unhexed (h ∷ l ∷ bs) ≡ given ((worth h * 16 + worth l) ∷ rest)
-unfolding unhexed
-both-digits h l bs p q r = rw (p, q, r, worth-of h p, worth-of l q)
-
-pair-refused : (h l : ℕ) (bs : Bytes) → unhexed bs ≡ refused not-convertible → unhexed (h ∷ l ∷ bs) ≡ refused not-convertible
-unfolding unhexed
-pair-refused h l bs r = go (hex-value h) refl (hex-value l) refl
-  where
-    go : (o : Option ℕ) → hex-value h ≡ o → (p : Option ℕ) → hex-value l ≡ p → unhexed (h ∷ l ∷ bs) ≡ refused not-convertible
-    go none e p f = rw e
-    go (some x) e none f = rw (e, f)
-    go (some x) e (some y) f = rw (e, f, r)
-
 -- "odd length or a non-hex byte is 12"
+pair-refused : (o p : Option ℕ) → hex-pair o p (refused not-convertible) ≡ refused not-convertible
+pair-refused none p = refl
+pair-refused (some x) none = refl
+pair-refused (some x) (some y) = refl
+
 odd-refused : (e : Bytes) → (length e % 2 ≡ 0 → ⊥) → unhexed e ≡ refused not-convertible
 unfolding unhexed
 odd-refused [] h = absurd (h refl)
 odd-refused (b ∷ []) h = refl
-odd-refused (b ∷ c ∷ bs) h = pair-refused b c bs (odd-refused bs (λ z. h (omega arith)))
+odd-refused (b ∷ c ∷ bs) h = rw (odd-refused bs (λ z. h (omega arith))) (pair-refused (hex-value b) (hex-value c))
 
 other-refused : (e : Bytes) → any is-other e ≡ true → unhexed e ≡ refused not-convertible
 unfolding unhexed any is-other
-other-refused [] t = absurd (true≢false (sym t))
+other-refused [] t = cc
 other-refused (b ∷ []) t = refl
-other-refused (b ∷ c ∷ bs) t = go (hex-value b) refl (hex-value c) refl t (other-refused bs)
+other-refused (b ∷ c ∷ bs) t = go (hex-value b) (hex-value c) t (other-refused bs)
   where
-    go : (o : Option ℕ) → hex-value b ≡ o → (p : Option ℕ) → hex-value c ≡ p → (is-none o || (is-none p || any is-other bs)) ≡ true
-        → (any is-other bs ≡ true → unhexed bs ≡ refused not-convertible) → unhexed (b ∷ c ∷ bs) ≡ refused not-convertible
-    go none e p f t rest = rw e
-    go (some x) e none f t rest = rw (e, f)
-    go (some x) e (some y) f t rest = pair-refused b c bs (rest t)
+    go : (o p : Option ℕ) → (is-none o || (is-none p || any is-other bs)) ≡ true → (any is-other bs ≡ true → unhexed bs ≡ refused not-convertible)
+        → hex-pair o p (unhexed bs) ≡ refused not-convertible
+    go none p t rest = refl
+    go (some x) none t rest = refl
+    go (some x) (some y) t rest = rw (rest t)
 
 digits-spelled : (e : Bytes) → length e % 2 ≡ 0 → any is-other e ≡ false → unhexed e ≡ given (decoded e)
-unfolding decoded any is-other
-digits-spelled [] h t = no-bytes
+unfolding unhexed decoded any
+digits-spelled [] h t = refl
 digits-spelled (b ∷ []) h t = absurd (omega arith)
-digits-spelled (b ∷ c ∷ bs) h t = go (hex-value b) refl (hex-value c) refl t (digits-spelled bs (omega arith))
-  where
-    go : (o : Option ℕ) → hex-value b ≡ o → (p : Option ℕ) → hex-value c ≡ p → (is-none o || (is-none p || any is-other bs)) ≡ false
-        → (any is-other bs ≡ false → unhexed bs ≡ given (decoded bs)) → unhexed (b ∷ c ∷ bs) ≡ given ((worth b * 16 + worth c) ∷ decoded bs)
-    go none e p f t rest = absurd (true≢false t)
-    go (some x) e none f t rest = absurd (true≢false t)
-    go (some x) e (some y) f t rest = both-digits b c bs e f (rest t)
+digits-spelled (b ∷ c ∷ bs) h t =
+    let (p, more) = neither (is-other b) (any is-other (c ∷ bs)) t in
+    let (q, rest) = neither (is-other c) (any is-other bs) more in
+    rw (digit-worth b p, digit-worth c q, digits-spelled bs (omega arith) rest)
 
 -- what MY comes to: 12, or 13, or the bytes
 unspelled : (e : Bytes) → unhexed e ≡ refused not-convertible → outcome Plain.unhex e ≡ refused not-convertible
 unfolding plain-gives
-unspelled e r = ap (λ (x : Res Bytes). limited entry-most (x >>= λ bs. (refuse mark-from-hex when any is-mark bs) >> given bs)) r ∙ passed-on not-convertible
+unspelled e r = limited-refused entry-most (rw r)
 
 pub unhex-odd : (e : Bytes) → (length e % 2 ≡ 0 → ⊥) → outcome Plain.unhex e ≡ refused not-convertible
 unhex-odd e h = unspelled e (odd-refused e h)
@@ -160,7 +137,7 @@ unhex-other e t = unspelled e (other-refused e t)
 module _ (e : Bytes) (even : length e % 2 ≡ 0) (digits : any is-other e ≡ false) where
   pub unhex-marked : any is-mark (decoded e) ≡ true → outcome Plain.unhex e ≡ refused mark-from-hex
   unfolding plain-gives
-  unhex-marked t = rw (digits-spelled e even digits, t) (passed-on mark-from-hex)
+  unhex-marked t = limited-refused entry-most (rw (digits-spelled e even digits, t))
 
   pub unhex-given : any is-mark (decoded e) ≡ false → plain-gives Plain.unhex e ≡ given (decoded e)
   unfolding plain-gives
@@ -171,13 +148,11 @@ module _ (e : Bytes) (even : length e % 2 ≡ 0) (digits : any is-other e ≡ fa
 -- a digit that MX writes is read by MY
 digit-back : (n : ℕ) → n < 16 → hex-value (hex-digit n) ≡ some n
 unfolding hex-value hex-digit is-digit
-digit-back n h = go (ltb n 10) refl
-  where
-    go : (t : Bool) → ltb n 10 ≡ t → hex-value (if t then 48 + n else 65 + (n - 10)) ≡ some n
-    go true s = let l : n < 10 = ltb-true n 10 s in rw (within-yes 48 57 (48 + n) (omega arith) (omega arith)) (ap some (omega arith))
-    go false s =
-        let l : 10 ≤ n = ltb-false n 10 s in
-        rw (within-above 48 57 (65 + (n - 10)) (omega arith), within-yes 65 70 (65 + (n - 10)) (omega arith) (omega arith)) (ap some (omega arith))
+digit-back n h =
+    chosen (λ d. hex-value d ≡ some n) (ltb n 10)
+    (λ s. let l : n < 10 = ltb-true n 10 s in rw (within-yes 48 57 (48 + n) (omega arith) (omega arith)) (ap some (omega arith)))
+    (λ s. let l : 10 ≤ n = ltb-false n 10 s in
+    rw (within-above 48 57 (65 + (n - 10)) (omega arith), within-yes 65 70 (65 + (n - 10)) (omega arith) (omega arith)) (ap some (omega arith)))
 
 -- the bytes that MX spells are read back
 pub unhexed-hexed : (bs : Bytes) → ((k : ℕ) → getD bs k 0 < 256) → unhexed (hexed bs) ≡ given bs

@@ -6,13 +6,13 @@ use native.Mathlib.Numerals.{add-one}
 use native.Mathlib.Omega.{arith}
 use lib.ListN.{length, take, drop, set, length-append, length-set, take-append-drop}
 use lib.Seq.{length-take-le, take-suc-set, append-snoc, drop-set-lt, drop-drop, take-at}
-use borrow.Author.Tests.{le-leb, lt-leb}
 use Rattle.paper.specs.Bytes.{Bytes}
 use Rattle.paper.specs.Sizes.{entry-most}
-use Rattle.paper.specs.Refusals.{Res, given, refused, over-long-entry}
-use Rattle.paper.specs.Answers.{given-of, written}
+use Rattle.paper.specs.Refusals.{Res, given}
+use Rattle.paper.specs.Answers.{written}
 use Rattle.paper.specs.Steps.{limited}
-use Rattle.paper.specs.declared.Given.the-variants.{Length, Refused}
+use Rattle.paper.specs.declared.Given.the-variants.{Length}
+use Rattle.paper.proofs.Limits.{limited-within, Answered, gives-bytes}
 
 -- n bytes of `whole` stand in front of what `held` has from there on, and `rest` is still to be written
 pub record Progress (held out : Bytes) (n : ℕ) (rest whole : Bytes) : Type 0 where
@@ -78,35 +78,7 @@ module _ (held whole : Bytes) {out : Bytes} {n : ℕ} (told : n ≡ length whole
   unfolding written
   front = rw stand (take-at whole (drop (length whole) held) (n - 0) (omega arith))
 
--- refusal 9: "element, entry or result over 1,024"
-pub entry-limit : entry-most ≡ 1_024
-unfolding entry-most
-entry-limit = refl
-
-pub allowed : (bs : Bytes) → length bs ≤ entry-most → limited entry-most (given bs) ≡ given bs
-unfolding limited
-allowed bs fits = rw (le-leb (length bs) entry-most fits)
-
-pub over-long : (bs : Bytes) → entry-most < length bs → limited entry-most (given bs) ≡ refused over-long-entry
-unfolding limited
-over-long bs more = rw (lt-leb (length bs) entry-most more)
-
-pub passed-on : (n : ℕ) → limited entry-most (refused n) ≡ refused n
-unfolding limited
-passed-on n = refl
-
--- the answer of a call that refuses, and leaves the buffer as it was
-pub turned-down : (held : Bytes) {r : Res Bytes} {n : ℕ} → r ≡ refused n → (Refused n ≡ given-of r) × (held ≡ written held r)
-unfolding given-of written
-turned-down held e = rw e (refl, refl)
-
--- the same over the limit on a result
-pub handed : (held whole : Bytes) {out : Bytes} {r : Res Bytes} → length whole ≤ entry-most → r ≡ given whole → out ≡ whole ++ drop (length whole) held
-    → (Length (length whole) ≡ given-of (limited entry-most r)) × (out ≡ written held (limited entry-most r))
-unfolding given-of written
-handed held whole fits e stand = rw (e, allowed whole fits) (refl, stand)
-
+-- all written within the limit on a result
 pub answered : {held out : Bytes} {n : ℕ} {whole : Bytes} {r : Res Bytes} → Progress held out n [] whole → length whole ≤ entry-most → r ≡ given whole
-    → (Length n ≡ given-of (limited entry-most r)) × (out ≡ written held (limited entry-most r))
-unfolding given-of written
-answered {whole = whole} p fits e = rw (e, allowed whole fits) (ap Length (counted p), stands p)
+    → Answered (limited entry-most r) held out (Length n)
+answered {held} {whole = whole} p fits e = gives-bytes held whole (limited-within entry-most e fits) (counted p) (stands p)

@@ -9,15 +9,9 @@ use Rattle.texts.proofs.Laws.{either-fits}
 use Rattle.texts.proofs.admit.Statement.{statement}
 use Rattle.texts.proofs.admit.Tie as tie
 
-give-requires : tie.Need-give-requires
-give-requires c κs =
-    let a = c .before .before .before .before .args in
-    let l = ap length (c .before .admitted .ensures) in
-    (omega (arith, l, either-fits (within (a .least) (a .most) (length (a .e .now))) (a .e .now)), search needs)
-
-returns : tie.Need-returns
-unfolding plain-gives
-returns c = rw (c .before .before .before .before .admitted .ensures) at (c .before .before .give .ensures)
-
 pub admit-spec : {M : Type 1} → statement M
-admit-spec = tie.close (tie.spec (λ c κs. search needs) give-requires (λ c. search needs) returns)
+unfolding plain-gives
+admit-spec = tie.close (tie.spec (λ c κs. search needs)
+    (λ c κs. let a = c .before .before .before .before .args in let l = ap length (c .before .admitted .ensures) in
+    (omega (arith, l, either-fits (within (a .least) (a .most) (length (a .e .now))) (a .e .now)), search needs))
+    (λ c. search needs) (λ c. rw (c .before .before .before .before .admitted .ensures) at (c .before .before .give .ensures)))

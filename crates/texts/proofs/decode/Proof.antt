@@ -16,46 +16,16 @@ Inv-loop e out₀ i₀ n₀ out i n = (i ≤ length e) × Progress out₀ out n 
 abbrev μ-loop : tie.MeasureT-loop
 μ-loop e out₀ i₀ n₀ out i n = length e - i
 
-loop-holds : tie.Need-loop-holds Inv-loop μ-loop
-loop-holds c = (omega arith, begun (omega (arith, decoded-fits (c .before .before .args .e .now))))
-
 -- the next byte has its place
 has-place : (c : tie.In-loop Inv-loop μ-loop) → c .before .loop .n < length (c .before .before .before .before .args .out .now)
 has-place c = room (onto (c .before .loop .inv .1) (decoded-next _ _ (c .loop-test .taken)))
 
-slice-write-out : tie.Need-slice-write-out Inv-loop μ-loop
-slice-write-out c = omega (arith, has-place (c .before .before .before))
-
-add-n : tie.Need-add-n Inv-loop μ-loop
-add-n c = omega (arith, has-place (c .before .before .before))
-
-loop-again : tie.Need-loop-again Inv-loop μ-loop
-loop-again c =
-    let turn = c .before .before .before in
-    (omega arith, rw (c .byte .ensures) (put (onto (turn .before .loop .inv .1) (decoded-next _ _ (turn .loop-test .taken)))))
-
-returns : tie.Need-returns Inv-loop μ-loop
-unfolding written
-returns c =
-    let p = onto (c .before .loop .inv .1) (decoded-none _ _ (c .loop-test .left)) in
-    (counted p, stands p)
-
 pub decode-spec : {M : Type 1} → statement M
-decode-spec =
-    tie.close
-    (tie.spec
-    Inv-loop
-    μ-loop
-    loop-holds
+unfolding written
+decode-spec = tie.close (tie.spec Inv-loop μ-loop (λ c. (omega arith, begun (omega (arith, decoded-fits (c .before .before .args .e .now)))))
+    (λ c. omega arith) (λ c. omega arith) (λ c. omega arith) (λ c. omega arith) (λ c κs. search needs)
+    (λ c. omega (arith, has-place (c .before .before .before))) (λ c. omega (arith, has-place (c .before .before .before))) (λ c. omega arith)
     (λ c. omega arith)
-    (λ c. omega arith)
-    (λ c. omega arith)
-    (λ c. omega arith)
-    (λ c κs. search needs)
-    slice-write-out
-    add-n
-    (λ c. omega arith)
-    (λ c. omega arith)
-    loop-again
-    (λ c. c .before .loop .inv .1 .kept)
-    returns)
+    (λ c. let turn = c .before .before .before in
+    (omega arith, rw (c .byte .ensures) (put (onto (turn .before .loop .inv .1) (decoded-next _ _ (turn .loop-test .taken))))))
+    (λ c. c .before .loop .inv .1 .kept) (λ c. let p = onto (c .before .loop .inv .1) (decoded-none _ _ (c .loop-test .left)) in (counted p, stands p)))

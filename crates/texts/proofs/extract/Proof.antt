@@ -8,19 +8,12 @@ use Rattle.texts.proofs.Laws.{part-fits}
 use Rattle.texts.proofs.extract.Statement.{statement}
 use Rattle.texts.proofs.extract.Tie as tie
 
-give-requires : tie.Need-give-requires
-give-requires c κs =
-    let a = c .before .before .before .before .before .before .args in
-    let l = ap length (c .before .front .ensures ∙ ap (take (a .count)) (c .before .before .after .ensures)) in
-    (omega (arith, l, part-fits (a .count) (c .before .before .before .index .result) (a .e .now)), search needs)
-
-returns : tie.Need-returns
-unfolding plain-gives
-returns c =
-    let called = c .before .before .before .before in
-    rw (called .front .ensures, called .before .after .ensures, called .before .before .index .ensures) at (c .before .before .give .ensures)
-
 pub extract-spec : {M : Type 1} → statement M
-extract-spec =
-    tie.close
-    (tie.spec (λ c κs. search needs) (λ c κs. search needs) (λ c κs. search needs) give-requires (λ c. search needs) returns)
+unfolding plain-gives
+extract-spec = tie.close (tie.spec (λ c κs. search needs) (λ c κs. search needs) (λ c κs. search needs)
+    (λ c κs. let a = c .before .before .before .before .before .before .args in
+    let l = ap length (c .before .front .ensures ∙ ap (take (a .count)) (c .before .before .after .ensures)) in
+    (omega (arith, l, part-fits (a .count) (c .before .before .before .index .result) (a .e .now)), search needs))
+    (λ c. search needs)
+    (λ c. let called = c .before .before .before .before in
+    rw (called .front .ensures, called .before .after .ensures, called .before .before .index .ensures) at (c .before .before .give .ensures)))

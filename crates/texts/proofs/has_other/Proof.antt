@@ -17,27 +17,9 @@ Inv-loop e found₀ i₀ found i = (i ≤ length e) × (any is-other e ≡ found
 abbrev μ-loop : tie.MeasureT-loop
 μ-loop e found₀ i₀ found i = length e - i
 
-loop-again : tie.Need-loop-again Inv-loop μ-loop
-loop-again c =
-    let turn = c .before .before in
-    let at = turn .before .loop in
-    (omega arith, rw (c .is-other .ensures) (any-next is-other _ (at .found) (at .i) (at .inv .1) (turn .loop-test .taken)))
-
-returns : tie.Need-returns Inv-loop μ-loop
-returns c =
-    let at = c .before .loop in
-    any-all is-other _ (at .found) (at .i) (at .inv .1) (c .loop-test .left)
-
 pub has-other-spec : {M : Type 1} → statement M
-has-other-spec =
-    tie.close
-    (tie.spec
-    Inv-loop
-    μ-loop
-    (λ c. (omega arith, refl))
+has-other-spec = tie.close (tie.spec Inv-loop μ-loop (λ c. (omega arith, refl)) (λ c. omega arith) (λ c κs. search needs) (λ c. omega arith)
     (λ c. omega arith)
-    (λ c κs. search needs)
-    (λ c. omega arith)
-    (λ c. omega arith)
-    loop-again
-    returns)
+    (λ c. let turn = c .before .before in let at = turn .before .loop in
+    (omega arith, rw (c .is-other .ensures) (any-next is-other _ (at .found) (at .i) (at .inv .1) (turn .loop-test .taken))))
+    (λ c. let at = c .before .loop in any-all is-other _ (at .found) (at .i) (at .inv .1) (c .loop-test .left)))

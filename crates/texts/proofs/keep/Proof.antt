@@ -18,25 +18,12 @@ Inv-loop e class out₀ i₀ n₀ out i n = (i ≤ length e) × Progress out₀ 
 abbrev μ-loop : tie.MeasureT-loop
 μ-loop e class out₀ i₀ n₀ out i n = length e - i
 
-loop-holds : tie.Need-loop-holds Inv-loop μ-loop
-loop-holds c =
-    let start = c .before .before in
-    (omega arith, begun (omega (arith, only-fits (kept (start .args .class)) (start .args .e .now))))
-
 -- a byte that passes is the next one to write, and has its place
-has-place : (c : tie.Then1 Inv-loop μ-loop) → c .before .before .before .before .loop .n < length (c .before .before .before .before .before .before .before .args .out .now)
+has-place : (c : tie.Then1 Inv-loop μ-loop)
+    → c .before .before .before .before .loop .n < length (c .before .before .before .before .before .before .before .args .out .now)
 has-place c =
     let turn = c .before .before .before in
     room (onto (turn .before .loop .inv .1) (keeps-next _ _ _ (turn .loop-test .taken) (sym (c .before .keeps .ensures) ∙ c .if1 .taken)))
-
-slice-write-out : tie.Need-slice-write-out Inv-loop μ-loop
-slice-write-out c = omega (arith, has-place c)
-
-add-n : tie.Need-add-n Inv-loop μ-loop
-add-n c = omega (arith, has-place c)
-
-add-i : tie.Need-add-i Inv-loop μ-loop
-add-i c = omega arith
 
 loop-again : tie.Need-loop-again Inv-loop μ-loop
 loop-again c =
@@ -49,9 +36,6 @@ loop-again c =
           (c .if1 .came),
     )
 
-same-length : tie.Need-same-length Inv-loop μ-loop
-same-length c = c .before .loop .inv .1 .kept
-
 returns : tie.Need-returns Inv-loop μ-loop
 returns c =
     let start = c .before .before .before .before in
@@ -63,18 +47,7 @@ returns c =
     (keep-gives k e)
 
 pub keep-spec : {M : Type 1} → statement M
-keep-spec =
-    tie.close
-    (tie.spec
-    Inv-loop
-    μ-loop
-    loop-holds
-    (λ c. search needs)
-    (λ c κs. search needs)
-    slice-write-out
-    add-n
-    add-i
-    (λ c. omega arith)
-    loop-again
-    same-length
-    returns)
+keep-spec = tie.close (tie.spec Inv-loop μ-loop
+    (λ c. let start = c .before .before in (omega arith, begun (omega (arith, only-fits (kept (start .args .class)) (start .args .e .now)))))
+    (λ c. search needs) (λ c κs. search needs) (λ c. omega (arith, has-place c)) (λ c. omega (arith, has-place c)) (λ c. omega arith) (λ c. omega arith)
+    loop-again (λ c. c .before .loop .inv .1 .kept) returns)

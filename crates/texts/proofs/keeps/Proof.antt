@@ -6,35 +6,9 @@ use Rattle.texts.specs.Codes.{kept}
 use Rattle.texts.proofs.keeps.Statement.{statement}
 use Rattle.texts.proofs.keeps.Tie as tie
 
-returns : tie.Need-returns
-unfolding kept
-returns c = rw (c .before .enum-told .given .1) (c .is-letter .ensures)
-
-returns-2 : tie.Need-returns-2
-unfolding kept
-returns-2 c = rw (c .before .enum-told2 .given .1) (ap not (c .is-letter2 .ensures))
-
-returns-3 : tie.Need-returns-3
-unfolding kept
-returns-3 c = rw (c .before .enum-told3 .given .1) (c .is-digit .ensures)
-
-returns-4 : tie.Need-returns-4
-unfolding kept
-returns-4 c = rw (c .before .enum-told4 .given .1) (ap not (c .is-digit2 .ensures))
-
 pub keeps-spec : {M : Type 1} → statement M
-keeps-spec =
-    tie.close
-    (tie.spec
-    (λ c. search needs)
-    (λ c κs. search needs)
-    (λ c. search needs)
-    (λ c κs. search needs)
-    (λ c. search needs)
-    (λ c κs. search needs)
-    (λ c. search needs)
-    (λ c κs. search needs)
-    returns
-    returns-2
-    returns-3
-    returns-4)
+unfolding kept
+keeps-spec = tie.close (tie.spec (λ c. search needs) (λ c κs. search needs) (λ c. search needs) (λ c κs. search needs) (λ c. search needs)
+    (λ c κs. search needs) (λ c. search needs) (λ c κs. search needs) (λ c. rw (c .before .enum-told .given .1) (c .is-letter .ensures))
+    (λ c. rw (c .before .enum-told2 .given .1) (ap not (c .is-letter2 .ensures))) (λ c. rw (c .before .enum-told3 .given .1) (c .is-digit .ensures))
+    (λ c. rw (c .before .enum-told4 .given .1) (ap not (c .is-digit2 .ensures))))

@@ -1,28 +1,18 @@
 -- `measure` writes the decimal text of the length. Assumes nothing.
-use mathlib.Core.Path.{refl, ap, _∙_}
+use mathlib.Core.Path.{refl}
 use native.Mathlib.Nat.{zero-add}
 use native.Mathlib.Omega.{arith}
 use lib.ListN.{length}
 use borrow.Author.Needs.{needs}
-use Rattle.paper.specs.Numbers.{decimal}
+use Rattle.paper.specs.Sizes.{entry-most}
 use Rattle.paper.specs.Texts.{plain-gives}
-use Rattle.paper.specs.declared.Given.the-variants.{Length}
 use Rattle.paper.proofs.Numerals.{length-decimal}
-use Rattle.texts.proofs.Writing.{entry-limit, handed}
+use Rattle.paper.proofs.Limits.{entry-limit, limited-within, gives-bytes}
 use Rattle.texts.proofs.measure.Statement.{statement}
 use Rattle.texts.proofs.measure.Tie as tie
 
-decimal-requires : tie.Need-decimal-requires
-decimal-requires c κs = omega (arith, entry-limit)
-
-returns : tie.Need-returns
-unfolding plain-gives
-returns c =
-    let a = c .before .before .before .before .before .before .args in
-    let n = length (a .e .now) in
-    let wrote = c .before .before .decimal .ensures in
-    let h = handed (a .out .now) (decimal n) (omega (arith, entry-limit, length-decimal n)) refl (rw zero-add at (wrote .1)) in
-    (ap Length (wrote .0) ∙ h .0, h .1)
-
 pub measure-spec : {M : Type 1} → statement M
-measure-spec = tie.close (tie.spec decimal-requires (λ c. search needs) returns)
+unfolding plain-gives
+measure-spec = tie.close (tie.spec (λ c κs. omega (arith, entry-limit)) (λ c. search needs)
+    (λ c. let n = length (c .before .before .before .before .before .before .args .e .now) in let wrote = c .before .before .decimal .ensures in
+    gives-bytes _ _ (limited-within entry-most refl (omega (arith, entry-limit, length-decimal n))) (wrote .0) (rw zero-add at (wrote .1))))

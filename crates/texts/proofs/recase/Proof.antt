@@ -17,11 +17,6 @@ Inv-loop e case out₀ after-letter₀ i₀ out after-letter i =
 abbrev μ-loop : tie.MeasureT-loop
 μ-loop e case out₀ after-letter₀ i₀ out after-letter i = length e - i
 
-loop-holds : tie.Need-loop-holds Inv-loop μ-loop
-loop-holds c =
-    let start = c .before .before in
-    (omega arith, begun (omega (arith, cased-fits (start .args .case) false (start .args .e .now))))
-
 loop-again : tie.Need-loop-again Inv-loop μ-loop
 loop-again c =
     let turn = c .before .before .before in (
@@ -29,9 +24,6 @@ loop-again c =
       rw (c .before .turn .ensures, c .is-letter .ensures)
           (put (onto (turn .before .loop .inv .1) (cased-next _ _ _ _ (turn .loop-test .taken)))),
     )
-
-same-length : tie.Need-same-length Inv-loop μ-loop
-same-length c = c .before .loop .inv .1 .kept
 
 returns : tie.Need-returns Inv-loop μ-loop
 returns c =
@@ -44,18 +36,7 @@ returns c =
     (recase-gives k e)
 
 pub recase-spec : {M : Type 1} → statement M
-recase-spec =
-    tie.close
-    (tie.spec
-    Inv-loop
-    μ-loop
-    loop-holds
-    (λ c. search needs)
-    (λ c κs. search needs)
-    (λ c. omega arith)
-    (λ c κs. search needs)
-    (λ c. omega arith)
-    (λ c. omega arith)
-    loop-again
-    same-length
-    returns)
+recase-spec = tie.close (tie.spec Inv-loop μ-loop
+    (λ c. let start = c .before .before in (omega arith, begun (omega (arith, cased-fits (start .args .case) false (start .args .e .now)))))
+    (λ c. search needs) (λ c κs. search needs) (λ c. omega arith) (λ c κs. search needs) (λ c. omega arith) (λ c. omega arith) loop-again
+    (λ c. c .before .loop .inv .1 .kept) returns)

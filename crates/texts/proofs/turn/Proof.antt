@@ -7,45 +7,13 @@ use Rattle.texts.proofs.Cases.{letter-cases, other-case}
 use Rattle.texts.proofs.turn.Statement.{statement}
 use Rattle.texts.proofs.turn.Tie as tie
 
-returns : tie.Need-returns
-unfolding turned
-returns c = rw (c .before .enum-told .given .1) (c .raise .ensures)
-
-returns-2 : tie.Need-returns-2
-unfolding turned
-returns-2 c = rw (c .before .enum-told2 .given .1) (c .lower .ensures)
-
-returns-3 : tie.Need-returns-3
-unfolding turned
-returns-3 c =
-    let tested = c .before .before in
-    rw (tested .before .enum-told3 .given .1, c .if2 .taken) (letter-cases _ (omega arith) (sym (tested .is-letter .ensures) ∙ c .before .if1 .taken) .0)
-
-returns-4 : tie.Need-returns-4
-unfolding turned
-returns-4 c =
-    let tested = c .before .before in
-    rw (tested .before .enum-told3 .given .1, c .if2 .left) (letter-cases _ (omega arith) (sym (tested .is-letter .ensures) ∙ c .before .if1 .taken) .1)
-
-returns-5 : tie.Need-returns-5
-unfolding turned
-returns-5 c =
-    let tested = c .before in
-    let a = tested .before .before .before .args in
-    rw (tested .before .enum-told3 .given .1) (other-case (a .b) (omega arith) (a .after-letter) (sym (tested .is-letter .ensures) ∙ c .if1 .left))
-
 pub turn-spec : {M : Type 1} → statement M
-turn-spec =
-    tie.close
-    (tie.spec
-    (λ c. search needs)
-    (λ c κs. search needs)
-    (λ c. search needs)
-    (λ c κs. search needs)
-    (λ c. search needs)
-    (λ c κs. search needs)
-    returns
-    returns-2
-    returns-3
-    returns-4
-    returns-5)
+unfolding turned
+turn-spec = tie.close (tie.spec (λ c. search needs) (λ c κs. search needs) (λ c. search needs) (λ c κs. search needs) (λ c. search needs)
+    (λ c κs. search needs) (λ c. rw (c .before .enum-told .given .1) (c .raise .ensures)) (λ c. rw (c .before .enum-told2 .given .1) (c .lower .ensures))
+    (λ c. let tested = c .before .before in
+    rw (tested .before .enum-told3 .given .1, c .if2 .taken) (letter-cases _ (omega arith) (sym (tested .is-letter .ensures) ∙ c .before .if1 .taken) .0))
+    (λ c. let tested = c .before .before in
+    rw (tested .before .enum-told3 .given .1, c .if2 .left) (letter-cases _ (omega arith) (sym (tested .is-letter .ensures) ∙ c .before .if1 .taken) .1))
+    (λ c. let tested = c .before in let a = tested .before .before .before .args in
+    rw (tested .before .enum-told3 .given .1) (other-case (a .b) (omega arith) (a .after-letter) (sym (tested .is-letter .ensures) ∙ c .if1 .left))))

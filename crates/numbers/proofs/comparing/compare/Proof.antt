@@ -8,22 +8,6 @@ use Rattle.numbers.proofs.ComparingLaws.{second-apart, top-apart, both-
 use Rattle.numbers.proofs.comparing.compare.Statement.{statement}
 use Rattle.numbers.proofs.comparing.compare.Tie as tie
 
-returns : tie.Need-returns
-unfolding form-gives compared-gives
-returns c =
-    let f = c .before .before .before in
-    let a = f .before .before .before .args in
-    ap given (c .compare-bytes .ensures)
-    ∙ second-apart (a .second .now) (a .top .now) (ap form-gives (sym (c .before .enum-told .given .1)) ∙ f .form .ensures)
-
-returns-2 : tie.Need-returns-2
-unfolding form-gives compared-gives
-returns-2 c =
-    let g = c .before .before .before in
-    let a = g .before .before .before .before .before .before .before .args in
-    ap given (c .compare-bytes2 .ensures)
-    ∙ top-apart (a .second .now) (a .top .now) (ap form-gives (sym (c .before .enum-told2 .given .1)) ∙ g .form2 .ensures)
-
 returns-3 : tie.Need-returns-3
 unfolding form-gives
 returns-3 c =
@@ -37,18 +21,13 @@ returns-3 c =
     (ap form-gives (sym (y .right .given .1)) ∙ g .form2 .ensures)
 
 pub compare-spec : {M : Type 1} → statement M
-compare-spec =
-    tie.close
-    (tie.spec
-    (λ c κs. search needs)
-    (λ c. search needs)
-    (λ c. search needs)
-    (λ c κs. search needs)
-    returns
-    (λ c κs. search needs)
-    (λ c. search needs)
-    (λ c. search needs)
-    (λ c κs. search needs)
-    returns-2
-    (λ c κs. search needs)
-    returns-3)
+unfolding form-gives compared-gives
+compare-spec = tie.close (tie.spec (λ c κs. search needs) (λ c. search needs) (λ c. search needs) (λ c κs. search needs)
+    (λ c. let f = c .before .before .before in let a = f .before .before .before .args in
+    ap given (c .compare-bytes .ensures)
+    ∙ second-apart (a .second .now) (a .top .now) (ap form-gives (sym (c .before .enum-told .given .1)) ∙ f .form .ensures))
+    (λ c κs. search needs) (λ c. search needs) (λ c. search needs) (λ c κs. search needs)
+    (λ c. let g = c .before .before .before in let a = g .before .before .before .before .before .before .before .args in
+    ap given (c .compare-bytes2 .ensures)
+    ∙ top-apart (a .second .now) (a .top .now) (ap form-gives (sym (c .before .enum-told2 .given .1)) ∙ g .form2 .ensures))
+    (λ c κs. search needs) returns-3)

@@ -15,19 +15,6 @@ Inv-loop second top i₀ i =
 abbrev μ-loop : tie.MeasureT-loop
 μ-loop second top i₀ i = length second - i
 
-returns : tie.Need-returns Inv-loop μ-loop
-unfolding order-of
-returns c =
-    let l = c .before .before in
-    let a = l .before .before .before .args in
-    longer (a .second .now) (a .top .now) (l .loop .i) (omega arith) (omega arith) ∙ l .loop .inv .2
-
-cast-order : tie.Need-cast-order Inv-loop μ-loop
-cast-order c = omega (arith, c .before .before .shared-slice-known3 .given (c .before .before .before .before .before .loop .i))
-
-cast-order-2 : tie.Need-cast-order-2 Inv-loop μ-loop
-cast-order-2 c = omega (arith, c .before .shared-slice-known4 .given (c .before .before .before .before .before .loop .i))
-
 returns-2 : tie.Need-returns-2 Inv-loop μ-loop
 returns-2 c =
     let l = c .before .before .before .before .before .before in
@@ -45,28 +32,14 @@ loop-again c =
       same-byte (a .second .now) (a .top .now) (l .loop .i) (omega arith) (omega arith) (c .if2 .left) ∙ l .loop .inv .2,
     )
 
-returns-3 : tie.Need-returns-3 Inv-loop μ-loop
-returns-3 c =
-    let l = c .before .before in
-    let a = l .before .before .before .args in
-    c .order2 .ensures ∙ ended (a .second .now) (a .top .now) (l .loop .i) (omega arith) (omega arith) ∙ l .loop .inv .2
-
 pub compare-bytes-spec : {M : Type 1} → statement M
-compare-bytes-spec =
-    tie.close
-    (tie.spec
-    Inv-loop
-    μ-loop
-    (λ c. (omega arith, omega arith, refl))
-    returns
-    (λ c. omega arith)
-    (λ c. omega arith)
-    cast-order
-    cast-order-2
-    (λ c κs. tt)
-    returns-2
-    (λ c. omega arith)
-    (λ c. omega arith)
-    loop-again
-    (λ c κs. tt)
-    returns-3)
+unfolding order-of
+compare-bytes-spec = tie.close (tie.spec Inv-loop μ-loop (λ c. (omega arith, omega arith, refl))
+    (λ c. let l = c .before .before in let a = l .before .before .before .args in
+    longer (a .second .now) (a .top .now) (l .loop .i) (omega arith) (omega arith) ∙ l .loop .inv .2)
+    (λ c. omega arith) (λ c. omega arith)
+    (λ c. omega (arith, c .before .before .shared-slice-known3 .given (c .before .before .before .before .before .loop .i)))
+    (λ c. omega (arith, c .before .shared-slice-known4 .given (c .before .before .before .before .before .loop .i))) (λ c κs. tt) returns-2
+    (λ c. omega arith) (λ c. omega arith) loop-again (λ c κs. tt)
+    (λ c. let l = c .before .before in let a = l .before .before .before .args in
+    c .order2 .ensures ∙ ended (a .second .now) (a .top .now) (l .loop .i) (omega arith) (omega arith) ∙ l .loop .inv .2))

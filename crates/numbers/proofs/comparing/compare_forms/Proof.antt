@@ -7,34 +7,12 @@ use Rattle.numbers.proofs.FormLaws.{a-number, passed-up}
 use Rattle.numbers.proofs.comparing.compare_forms.Statement.{statement}
 use Rattle.numbers.proofs.comparing.compare_forms.Tie as tie
 
-returns : tie.Need-returns
-unfolding compared-gives numbers-order
-returns c = rw (passed-up refl (c .before .enum-told .given .1) (c .refusal .ensures))
-
-returns-2 : tie.Need-returns-2
-unfolding compared-gives numbers-order
-returns-2 c =
-    let x = c .before .before .before .before .left in
-    rw (a-number refl (x .given .1), passed-up refl (c .before .enum-told2 .given .1) (c .refusal2 .ensures))
-
-returns-3 : tie.Need-returns-3
-unfolding compared-gives numbers-order
-returns-3 c =
-    let y = c .before .before in
-    let x = y .before .before .before in
-    rw (a-number refl (x .left .given .1), a-number refl (y .right .given .1)) (ap given (c .compare-numbers .ensures))
-
 pub compare-forms-spec : {M : Type 1} → statement M
-compare-forms-spec =
-    tie.close
-    (tie.spec
-    (λ c. search needs)
-    (λ c. search needs)
+unfolding compared-gives numbers-order
+compare-forms-spec = tie.close (tie.spec (λ c. search needs) (λ c. search needs) (λ c κs. search needs)
+    (λ c. rw (passed-up refl (c .before .enum-told .given .1) (c .refusal .ensures))) (λ c. search needs) (λ c. search needs) (λ c κs. search needs)
+    (λ c. let x = c .before .before .before .before .left in
+    rw (a-number refl (x .given .1), passed-up refl (c .before .enum-told2 .given .1) (c .refusal2 .ensures)))
     (λ c κs. search needs)
-    returns
-    (λ c. search needs)
-    (λ c. search needs)
-    (λ c κs. search needs)
-    returns-2
-    (λ c κs. search needs)
-    returns-3)
+    (λ c. let y = c .before .before in let x = y .before .before .before in
+    rw (a-number refl (x .left .given .1), a-number refl (y .right .given .1)) (ap given (c .compare-numbers .ensures))))

@@ -7,17 +7,10 @@ use Rattle.numbers.proofs.FormLaws.{numeric-converts, other-refused}
 use Rattle.numbers.proofs.reading.convertible.Statement.{statement}
 use Rattle.numbers.proofs.reading.convertible.Tie as tie
 
-returns : tie.Need-returns
-unfolding reckoned-gives form-gives
-returns c =
-    let f = c .before .before in
-    other-refused (numeric (f .before .before .args .e .now)) (ap form-gives (sym (c .enum-told .given .1)) ∙ f .form .ensures)
-
-returns-2 : tie.Need-returns-2
-unfolding form-gives
-returns-2 c =
-    let f = c .before .before .before in
-    numeric-converts (numeric (f .before .before .args .e .now)) (ap form-gives (sym (c .before .value .given .1)) ∙ f .form .ensures)
-
 pub convertible-spec : {M : Type 1} → statement M
-convertible-spec = tie.close (tie.spec (λ c κs. search needs) (λ c. search needs) (λ c. search needs) returns returns-2)
+unfolding reckoned-gives form-gives
+convertible-spec = tie.close (tie.spec (λ c κs. search needs) (λ c. search needs) (λ c. search needs)
+    (λ c. let f = c .before .before in
+    other-refused (numeric (f .before .before .args .e .now)) (ap form-gives (sym (c .enum-told .given .1)) ∙ f .form .ensures))
+    (λ c. let f = c .before .before .before in
+    numeric-converts (numeric (f .before .before .args .e .now)) (ap form-gives (sym (c .before .value .given .1)) ∙ f .form .ensures)))

@@ -22,20 +22,6 @@ Inv-loop s at negative size₀ i₀ size i =
 abbrev μ-loop : tie.MeasureT-loop
 μ-loop s at negative size₀ i₀ size i = length s - i
 
-returns : tie.Need-returns Inv-loop μ-loop
-unfolding form-gives
-returns c =
-    let a = c .before .before .before .before .before .args in
-    let l = c .before .before .before .loop in
-    other-ends (a .negative) (a .s .now) (l .size) (l .i) (omega arith) (inl (omega arith)) ∙ l .inv .2
-
-returns-2 : tie.Need-returns-2 Inv-loop μ-loop
-unfolding form-gives
-returns-2 c =
-    let a = c .before .before .before .before .before .before .args in
-    let l = c .before .before .before .before .loop in
-    other-ends (a .negative) (a .s .now) (l .size) (l .i) (omega arith) (inr (omega arith)) ∙ l .inv .2
-
 loop-again : tie.Need-loop-again Inv-loop μ-loop
 loop-again c =
     let a = c .before .before .before .before .before .before .before .args in
@@ -57,19 +43,10 @@ returns-3 c =
     ∙ l .inv .2
 
 pub value-from-spec : {M : Type 1} → statement M
-value-from-spec =
-    tie.close
-    (tie.spec
-    Inv-loop
-    μ-loop
-    (λ c. (c .before .pre, omega arith, refl))
-    (λ c. omega arith)
-    returns
-    returns-2
-    (λ c κs. omega arith)
-    (λ c. omega arith)
-    (λ c. omega arith)
-    loop-again
-    (λ c κs. tt)
-    (λ c κs. tt)
-    returns-3)
+unfolding form-gives
+value-from-spec = tie.close (tie.spec Inv-loop μ-loop (λ c. (c .before .pre, omega arith, refl)) (λ c. omega arith)
+    (λ c. let a = c .before .before .before .before .before .args in let l = c .before .before .before .loop in
+    other-ends (a .negative) (a .s .now) (l .size) (l .i) (omega arith) (inl (omega arith)) ∙ l .inv .2)
+    (λ c. let a = c .before .before .before .before .before .before .args in let l = c .before .before .before .before .loop in
+    other-ends (a .negative) (a .s .now) (l .size) (l .i) (omega arith) (inr (omega arith)) ∙ l .inv .2)
+    (λ c κs. omega arith) (λ c. omega arith) (λ c. omega arith) loop-again (λ c κs. tt) (λ c κs. tt) returns-3)

@@ -2,13 +2,10 @@
 use mathlib.Core.Path.{_∙_, ap}
 use borrow.Author.Needs.{needs}
 use Rattle.paper.specs.Numbers.{ranged}
-use Rattle.numbers.specs.Reckonings.{reckoning}
+use Rattle.numbers.specs.Reckonings.{operated, reckoning}
 use Rattle.numbers.proofs.reckoning.add.Statement.{statement}
 use Rattle.numbers.proofs.reckoning.add.Tie as tie
 
-returns : tie.Need-returns
-unfolding reckoning
-returns c = c .ranged .ensures ∙ ap ranged (c .before .plus .ensures)
-
 pub add-spec : {M : Type 1} → statement M
-add-spec = tie.close (tie.spec (λ c κs. search needs) (λ c κs. search needs) returns)
+unfolding operated reckoning
+add-spec = tie.close (tie.spec (λ c κs. search needs) (λ c κs. search needs) (λ c. c .ranged .ensures ∙ ap ranged (c .before .plus .ensures)))

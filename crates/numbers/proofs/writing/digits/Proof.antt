@@ -29,25 +29,8 @@ loop-again c =
       digit-back (a .at) (l .i) (l .rest) (l .out) (c .loop-test .taken) (omega arith) ∙ l .inv .3,
     )
 
-returns : tie.Need-returns Inv-loop μ-loop
-returns c =
-    let a = c .before .before .args in
-    let l = c .before .loop in
-    all-back (a .at) (l .i) (a .k) (a .n) (l .rest) (l .out) (a .out .now) (c .loop-test .left) (l .inv .2) (l .inv .3)
-
 pub digits-spec : {M : Type 1} → statement M
-digits-spec =
-    tie.close
-    (tie.spec
-    Inv-loop
-    μ-loop
-    (λ c. (omega arith, refl, refl, refl))
-    (λ c. omega arith)
-    (λ c. omega arith)
-    (λ c. omega arith)
-    (λ c. omega arith)
-    (λ c. omega arith)
-    (λ c. omega arith)
-    loop-again
-    (λ c. c .before .loop .inv .1)
-    returns)
+digits-spec = tie.close (tie.spec Inv-loop μ-loop (λ c. (omega arith, refl, refl, refl)) (λ c. omega arith) (λ c. omega arith) (λ c. omega arith)
+    (λ c. omega arith) (λ c. omega arith) (λ c. omega arith) loop-again (λ c. c .before .loop .inv .1)
+    (λ c. let a = c .before .before .args in let l = c .before .loop in
+    all-back (a .at) (l .i) (a .k) (a .n) (l .rest) (l .out) (a .out .now) (c .loop-test .left) (l .inv .2) (l .inv .3)))

@@ -7,7 +7,7 @@ use lib.Dec.{eqb}
 use lib.ListN.{getD}
 use borrow.Author.Needs.{needs}
 use borrow.Author.Tests.{eqb-true}
-use Rattle.numbers.proofs.Table.{passed}
+use Rattle.paper.proofs.Truths.{passed}
 use Rattle.numbers.proofs.writing.power.Statement.{statement}
 use Rattle.numbers.proofs.writing.power.Tie as tie
 
@@ -19,9 +19,7 @@ powers =
 right : ℕ → Bool
 right k = eqb (getD powers k 0) (10 ^ k)
 
-returns : tie.Need-returns
-unfolding powers right
-returns c = eqb-true (getD powers (c .args .n) 0) (10 ^ c .args .n) (passed right 16 (c .args .n) refl (search needs))
-
 pub power-spec : {M : Type 1} → statement M
-power-spec = tie.close (tie.spec (λ c. search needs) (λ c. search needs) returns)
+unfolding powers right
+power-spec = tie.close (tie.spec (λ c. search needs) (λ c. search needs)
+    (λ c. eqb-true (getD powers (c .args .n) 0) (10 ^ c .args .n) (passed right 16 (c .args .n) refl (search needs))))

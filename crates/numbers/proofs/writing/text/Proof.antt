@@ -9,33 +9,13 @@ use Rattle.numbers.proofs.WritingLaws.{minus-written, plain-written}
 use Rattle.numbers.proofs.writing.text.Statement.{statement}
 use Rattle.numbers.proofs.writing.text.Tie as tie
 
-add-result : tie.Need-add-result
-add-result c = omega (arith, length-decimal (c .before .before .before .before .before .before .args .x .size))
-
-same-length : tie.Need-same-length
-same-length c = c .before .before .decimal .kept .1 .0 ∙ simp length-set
-
-returns : tie.Need-returns
-returns c =
-    let a = c .before .before .before .before .before .before .args in
-    let d = c .before .before .decimal in
-    minus-written (whole (a .x)) (d .result) (a .out .now) (d .last .1 .0) (c .before .before .before .before .if1 .taken) (omega arith) (d .ensures .0) (d .ensures .1)
-
-returns-2 : tie.Need-returns-2
-returns-2 c =
-    let a = c .before .before .before .before .before .before .args in
-    let d = c .before .before .decimal2 in
-    plain-written (whole (a .x)) (d .result) (a .out .now) (d .last .1 .0) (c .before .before .before .before .if1 .left) (d .ensures .0) (d .ensures .1)
-
 pub text-spec : {M : Type 1} → statement M
-text-spec =
-    tie.close
-    (tie.spec
-    (λ c. search needs)
-    (λ c κs. search needs)
-    add-result
-    same-length
-    returns
-    (λ c κs. search needs)
-    (λ c. search needs)
-    returns-2)
+text-spec = tie.close (tie.spec (λ c. search needs) (λ c κs. search needs)
+    (λ c. omega (arith, length-decimal (c .before .before .before .before .before .before .args .x .size)))
+    (λ c. c .before .before .decimal .kept .1 .0 ∙ simp length-set)
+    (λ c. let a = c .before .before .before .before .before .before .args in let d = c .before .before .decimal in
+    minus-written (whole (a .x)) (d .result) (a .out .now) (d .last .1 .0) (c .before .before .before .before .if1 .taken) (omega arith) (d .ensures .0)
+    (d .ensures .1))
+    (λ c κs. search needs) (λ c. search needs)
+    (λ c. let a = c .before .before .before .before .before .before .args in let d = c .before .before .decimal2 in
+    plain-written (whole (a .x)) (d .result) (a .out .now) (d .last .1 .0) (c .before .before .before .before .if1 .left) (d .ensures .0) (d .ensures .1)))

@@ -13,32 +13,12 @@ Inv-loop n k₀ k = (1 ≤ k) × (k ≤ 15) × ((k ≡ 1) ⊎ (10 ^ (k - 1) ≤ 
 abbrev μ-loop : tie.MeasureT-loop
 μ-loop n k₀ k = 15 - k
 
-returns : tie.Need-returns Inv-loop μ-loop
-returns c =
-    let l = c .before .before .before .loop in
-    widened (l .k) (c .before .before .before .before .args .n) (omega arith) (omega arith) (omega arith) (l .inv .2)
-
-loop-again : tie.Need-loop-again Inv-loop μ-loop
-loop-again c =
-    let l = c .before .before .before .loop in
-    (omega arith, omega arith, inr (one-more (l .k) (c .before .before .before .before .args .n) (omega arith)))
-
-returns-2 : tie.Need-returns-2 Inv-loop μ-loop
-returns-2 c =
-    let l = c .before .loop in
-    let n = c .before .before .args .n in
-    widened (l .k) n (omega arith) (omega arith) (all-digits (l .k) n (omega arith) (c .before .before .pre)) (l .inv .2)
-
 pub width-spec : {M : Type 1} → statement M
-width-spec =
-    tie.close
-    (tie.spec
-    Inv-loop
-    μ-loop
-    (λ c. (omega arith, omega arith, inl refl))
-    (λ c κs. omega arith)
-    returns
-    (λ c. omega arith)
-    (λ c. omega arith)
-    loop-again
-    returns-2)
+width-spec = tie.close (tie.spec Inv-loop μ-loop (λ c. (omega arith, omega arith, inl refl)) (λ c κs. omega arith)
+    (λ c. let l = c .before .before .before .loop in
+    widened (l .k) (c .before .before .before .before .args .n) (omega arith) (omega arith) (omega arith) (l .inv .2))
+    (λ c. omega arith) (λ c. omega arith)
+    (λ c. let l = c .before .before .before .loop in
+    (omega arith, omega arith, inr (one-more (l .k) (c .before .before .before .before .args .n) (omega arith))))
+    (λ c. let l = c .before .loop in let n = c .before .before .args .n in
+    widened (l .k) n (omega arith) (omega arith) (all-digits (l .k) n (omega arith) (c .before .before .pre)) (l .inv .2)))

@@ -5,13 +5,6 @@ use Rattle.paper.specs.Texts.{hex-digit}
 use Rattle.texts.proofs.hexit.digit.Statement.{statement}
 use Rattle.texts.proofs.hexit.digit.Tie as tie
 
-returns : tie.Need-returns
-unfolding hex-digit
-returns c = rw (lt-ltb _ _ (c .if1 .taken))
-
-returns-2 : tie.Need-returns-2
-unfolding hex-digit
-returns-2 c = rw (le-ltb _ _ (c .if1 .left))
-
 pub digit-spec : {M : Type 1} → statement M
-digit-spec = tie.close (tie.spec (λ c. search needs) (λ c. search needs) returns returns-2)
+unfolding hex-digit
+digit-spec = tie.close (tie.spec (λ c. search needs) (λ c. search needs) (λ c. rw (lt-ltb _ _ (c .if1 .taken))) (λ c. rw (le-ltb _ _ (c .if1 .left))))

@@ -1,5 +1,4 @@
 -- `hexit::is_other` tells the bytes that are no hex digits: digits, capitals and small letters are. Assumes nothing.
-use Prim.Native.Nat.{_-_, _+_}
 use borrow.Author.Needs.{needs}
 use Rattle.paper.specs.Bytes.{is-digit, within}
 use Rattle.paper.specs.Texts.{hex-value}
@@ -8,12 +7,9 @@ use Rattle.texts.proofs.Spelling.{is-other-of}
 use Rattle.texts.proofs.hexit.is_other.Statement.{statement}
 use Rattle.texts.proofs.hexit.is_other.Tie as tie
 
-returns : tie.Need-returns
-unfolding is-other hex-value is-digit
-returns c =
-    let b = c .before .before .before .args .b in
-    rw (c .before .before .is-digit .ensures, c .before .is-capital .ensures, c .is-small .ensures)
-    (is-other-of (within 48 57 b) (within 65 70 b) (within 97 102 b) (b - 48) (b - 65 + 10) (b - 97 + 10))
-
 pub is-other-spec : {M : Type 1} → statement M
-is-other-spec = tie.close (tie.spec (λ c κs. search needs) (λ c κs. search needs) (λ c κs. search needs) returns)
+unfolding is-other hex-value is-digit
+is-other-spec = tie.close (tie.spec (λ c κs. search needs) (λ c κs. search needs) (λ c κs. search needs)
+    (λ c. let b = c .before .before .before .args .b in
+    rw (c .before .before .is-digit .ensures, c .before .is-capital .ensures, c .is-small .ensures)
+    (is-other-of b (within 48 57 b) (within 65 70 b) (within 97 102 b))))

@@ -4,14 +4,6 @@ use Rattle.paper.proofs.Ranges.{within-yes, within-below, within-above}
 use Rattle.texts.proofs.hexit.is_small.Statement.{statement}
 use Rattle.texts.proofs.hexit.is_small.Tie as tie
 
-returns : tie.Need-returns
-returns c = sym (within-yes 97 102 _ (c .before .if1 .left) (c .if2 .taken))
-
-returns-2 : tie.Need-returns-2
-returns-2 c = sym (within-below 97 102 _ (c .if1 .taken))
-
-returns-3 : tie.Need-returns-3
-returns-3 c = sym (within-above 97 102 _ (c .if2 .left))
-
 pub is-small-spec : {M : Type 1} → statement M
-is-small-spec = tie.close (tie.spec returns returns-2 returns-3)
+is-small-spec = tie.close (tie.spec (λ c. sym (within-yes 97 102 _ (c .before .if1 .left) (c .if2 .taken)))
+    (λ c. sym (within-below 97 102 _ (c .if1 .taken))) (λ c. sym (within-above 97 102 _ (c .if2 .left))))

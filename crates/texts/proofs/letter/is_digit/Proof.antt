@@ -5,17 +5,7 @@ use Rattle.paper.proofs.Ranges.{within-yes, within-below, within-above}
 use Rattle.texts.proofs.letter.is_digit.Statement.{statement}
 use Rattle.texts.proofs.letter.is_digit.Tie as tie
 
-returns : tie.Need-returns
-unfolding is-digit
-returns c = sym (within-yes 48 57 _ (c .before .if1 .left) (c .if2 .taken))
-
-returns-2 : tie.Need-returns-2
-unfolding is-digit
-returns-2 c = sym (within-below 48 57 _ (c .if1 .taken))
-
-returns-3 : tie.Need-returns-3
-unfolding is-digit
-returns-3 c = sym (within-above 48 57 _ (c .if2 .left))
-
 pub is-digit-spec : {M : Type 1} → statement M
-is-digit-spec = tie.close (tie.spec returns returns-2 returns-3)
+unfolding is-digit
+is-digit-spec = tie.close (tie.spec (λ c. sym (within-yes 48 57 _ (c .before .if1 .left) (c .if2 .taken))) (λ c. sym (within-below 48 57 _ (c .if1 .taken)))
+    (λ c. sym (within-above 48 57 _ (c .if2 .left))))

@@ -4,9 +4,6 @@ use Rattle.paper.specs.Bytes.{is-letter}
 use Rattle.texts.proofs.letter.is_letter.Statement.{statement}
 use Rattle.texts.proofs.letter.is_letter.Tie as tie
 
-returns : tie.Need-returns
-unfolding is-letter
-returns c = rw (c .before .is-upper .ensures, c .is-lower .ensures)
-
 pub is-letter-spec : {M : Type 1} → statement M
-is-letter-spec = tie.close (tie.spec (λ c κs. search needs) (λ c κs. search needs) returns)
+unfolding is-letter
+is-letter-spec = tie.close (tie.spec (λ c κs. search needs) (λ c κs. search needs) (λ c. rw (c .before .is-upper .ensures, c .is-lower .ensures)))

@@ -6,20 +6,7 @@ use Rattle.paper.proofs.Ranges.{within-yes, within-below, within-above}
 use Rattle.texts.proofs.letter.raise.Statement.{statement}
 use Rattle.texts.proofs.letter.raise.Tie as tie
 
-sub-result : tie.Need-sub-result
-sub-result c = search needs
-
-returns : tie.Need-returns
-unfolding raised is-lower
-returns c = simp (within-yes 97 122 _ (c .before .if1 .left) (c .if2 .taken))
-
-returns-2 : tie.Need-returns-2
-unfolding raised is-lower
-returns-2 c = simp (within-below 97 122 _ (c .if1 .taken))
-
-returns-3 : tie.Need-returns-3
-unfolding raised is-lower
-returns-3 c = simp (within-above 97 122 _ (c .if2 .left))
-
 pub raise-spec : {M : Type 1} → statement M
-raise-spec = tie.close (tie.spec sub-result returns returns-2 returns-3)
+unfolding raised is-lower
+raise-spec = tie.close (tie.spec (λ c. search needs) (λ c. simp (within-yes 97 122 _ (c .before .if1 .left) (c .if2 .taken)))
+    (λ c. simp (within-below 97 122 _ (c .if1 .taken))) (λ c. simp (within-above 97 122 _ (c .if2 .left))))

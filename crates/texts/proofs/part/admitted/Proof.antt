@@ -7,20 +7,11 @@ use Rattle.paper.proofs.Ranges.{within-yes, within-below, within-above}
 use Rattle.texts.proofs.part.admitted.Statement.{statement}
 use Rattle.texts.proofs.part.admitted.Tie as tie
 
-returns : tie.Need-returns
-returns c =
-    let a = c .before .before .before .args in
-    c .front .ensures ∙ simp (within-below (a .least) (a .most) (length (a .e .now)) (c .before .if1 .taken))
-
-returns-2 : tie.Need-returns-2
-returns-2 c =
-    let a = c .before .before .before .before .args in
-    c .front2 .ensures ∙ simp (within-above (a .least) (a .most) (length (a .e .now)) (c .before .if2 .taken))
-
-returns-3 : tie.Need-returns-3
-returns-3 c =
-    let a = c .before .before .before .args in
-    simp (within-yes (a .least) (a .most) (length (a .e .now)) (c .before .if1 .left) (omega arith))
-
 pub admitted-spec : {M : Type 1} → statement M
-admitted-spec = tie.close (tie.spec (λ c κs. search needs) returns (λ c κs. search needs) returns-2 returns-3)
+admitted-spec = tie.close (tie.spec (λ c κs. search needs)
+    (λ c. let a = c .before .before .before .args in
+    c .front .ensures ∙ simp (within-below (a .least) (a .most) (length (a .e .now)) (c .before .if1 .taken)))
+    (λ c κs. search needs)
+    (λ c. let a = c .before .before .before .before .args in
+    c .front2 .ensures ∙ simp (within-above (a .least) (a .most) (length (a .e .now)) (c .before .if2 .taken)))
+    (λ c. let a = c .before .before .before .args in simp (within-yes (a .least) (a .most) (length (a .e .now)) (c .before .if1 .left) (omega arith))))

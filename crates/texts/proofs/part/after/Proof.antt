@@ -7,23 +7,7 @@ use Rattle.lent.proofs.Scans.{whole-rest}
 use Rattle.texts.proofs.part.after.Statement.{statement}
 use Rattle.texts.proofs.part.after.Tie as tie
 
-returns : tie.Need-returns
-returns c =
-    let e = c .before .before .args .e .now in
-    whole-rest e (length e) ∙ drop-length e ∙ sym (drop-of-length-le e (c .before .if1 .taken))
-
-returns-2 : tie.Need-returns-2
-returns-2 c = whole-rest (c .before .before .args .e .now) (c .before .before .args .skip)
-
 pub after-spec : {M : Type 1} → statement M
-after-spec =
-    tie.close
-    (tie.spec
-    (λ c. search needs)
-    (λ c. search needs)
-    (λ c. search needs)
-    returns
-    (λ c. search needs)
-    (λ c. search needs)
-    (λ c. search needs)
-    returns-2)
+after-spec = tie.close (tie.spec (λ c. search needs) (λ c. search needs) (λ c. search needs)
+    (λ c. let e = c .before .before .args .e .now in whole-rest e (length e) ∙ drop-length e ∙ sym (drop-of-length-le e (c .before .if1 .taken)))
+    (λ c. search needs) (λ c. search needs) (λ c. search needs) (λ c. whole-rest (c .before .before .args .e .now) (c .before .before .args .skip)))

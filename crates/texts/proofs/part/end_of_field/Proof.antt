@@ -16,17 +16,6 @@ Inv-loop e separator fields left₀ i₀ left i = (i ≤ length e) × (i + field
 abbrev μ-loop : tie.MeasureT-loop
 μ-loop e separator fields left₀ i₀ left i = length e - i
 
-loop-holds : tie.Need-loop-holds Inv-loop μ-loop
-loop-holds c = (omega arith, omega arith)
-
-returns : tie.Need-returns Inv-loop μ-loop
-returns c =
-    let turn = c .before .before .before in
-    let at = turn .before .loop in
-    let start = turn .before .before in
-    sym (field-stops (start .args .separator) (start .args .e .now) (at .i) (turn .loop-test .taken) (c .before .if1 .taken))
-    ∙ (rw (c .if2 .taken) at (at .inv .1))
-
 loop-again : tie.Need-loop-again Inv-loop μ-loop
 loop-again c =
     let turn = c .before .before in
@@ -41,22 +30,12 @@ loop-again c =
           (c .if1 .came),
     )
 
-returns-2 : tie.Need-returns-2 Inv-loop μ-loop
-returns-2 c =
-    let start = c .before .before in
-    sym (field-over (start .args .separator) (start .args .e .now) (c .before .loop .i) (c .before .loop .left) (c .loop-test .left)) ∙ c .before .loop .inv .1
-
 pub end-of-field-spec : {M : Type 1} → statement M
-end-of-field-spec =
-    tie.close
-    (tie.spec
-    Inv-loop
-    μ-loop
-    loop-holds
-    (λ c. omega arith)
-    returns
-    (λ c. omega arith)
-    (λ c. omega arith)
-    (λ c. omega arith)
-    loop-again
-    returns-2)
+end-of-field-spec = tie.close (tie.spec Inv-loop μ-loop (λ c. (omega arith, omega arith)) (λ c. omega arith)
+    (λ c. let turn = c .before .before .before in let at = turn .before .loop in let start = turn .before .before in
+    sym (field-stops (start .args .separator) (start .args .e .now) (at .i) (turn .loop-test .taken) (c .before .if1 .taken))
+    ∙ (rw (c .if2 .taken) at (at .inv .1)))
+    (λ c. omega arith) (λ c. omega arith) (λ c. omega arith) loop-again
+    (λ c. let start = c .before .before in
+    sym (field-over (start .args .separator) (start .args .e .now) (c .before .loop .i) (c .before .loop .left) (c .loop-test .left)) ∙ c .before .loop .inv
+    .1))

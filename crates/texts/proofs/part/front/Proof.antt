@@ -8,11 +8,6 @@ use borrow.Author.Needs.{needs}
 use Rattle.texts.proofs.part.front.Statement.{statement}
 use Rattle.texts.proofs.part.front.Tie as tie
 
-returns : tie.Need-returns
-returns c = sym (take-all _ _ (c .if1 .taken))
-
-returns-2 : tie.Need-returns-2
-returns-2 c = ap (λ (n : ℕ). take n (c .before .before .args .e .now)) (sub-zero (c .before .before .args .count))
-
 pub front-spec : {M : Type 1} → statement M
-front-spec = tie.close (tie.spec returns (λ c. search needs) (λ c. search needs) (λ c. search needs) returns-2)
+front-spec = tie.close (tie.spec (λ c. sym (take-all _ _ (c .if1 .taken))) (λ c. search needs) (λ c. search needs) (λ c. search needs)
+    (λ c. ap (λ (n : ℕ). take n (c .before .before .args .e .now)) (sub-zero (c .before .before .args .count))))

@@ -9,15 +9,6 @@ use Rattle.texts.proofs.Fields.{skips-some, field-end-fits}
 use Rattle.texts.proofs.part.skip_fields.Statement.{statement}
 use Rattle.texts.proofs.part.skip_fields.Tie as tie
 
-returns : tie.Need-returns
-unfolding fields-after
-returns c = rw (c .if1 .taken)
-
-add-after : tie.Need-add-after
-add-after c =
-    let a = c .before .before .before .args in
-    omega (arith, c .end-of-field .ensures, field-end-fits (a .separator) (a .skip - 1) (a .e .now))
-
 returns-2 : tie.Need-returns-2
 returns-2 c =
     let a = c .before .before .before .before .args in
@@ -26,6 +17,7 @@ returns-2 c =
     ∙ sym (skips-some (a .separator) (a .skip) (a .e .now) (omega (arith, c .before .before .if1 .left)))
 
 pub skip-fields-spec : {M : Type 1} → statement M
-skip-fields-spec =
-    tie.close
-    (tie.spec returns (λ c. search needs) (λ c κs. search needs) add-after (λ c κs. search needs) returns-2)
+unfolding fields-after
+skip-fields-spec = tie.close (tie.spec (λ c. rw (c .if1 .taken)) (λ c. search needs) (λ c κs. search needs)
+    (λ c. let a = c .before .before .before .args in omega (arith, c .end-of-field .ensures, field-end-fits (a .separator) (a .skip - 1) (a .e .now)))
+    (λ c κs. search needs) returns-2)

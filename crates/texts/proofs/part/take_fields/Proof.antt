@@ -9,10 +9,6 @@ use Rattle.texts.proofs.Fields.{takes-some}
 use Rattle.texts.proofs.part.take_fields.Statement.{statement}
 use Rattle.texts.proofs.part.take_fields.Tie as tie
 
-returns : tie.Need-returns
-unfolding first-fields
-returns c = rw (c .before .if1 .taken) (c .front .ensures)
-
 returns-2 : tie.Need-returns-2
 returns-2 c =
     let a = c .before .before .before .before .args in
@@ -21,6 +17,6 @@ returns-2 c =
     ∙ sym (takes-some (a .separator) (a .count) (a .e .now) (omega (arith, c .before .before .if1 .left)))
 
 pub take-fields-spec : {M : Type 1} → statement M
-take-fields-spec =
-    tie.close
-    (tie.spec (λ c κs. search needs) returns (λ c. search needs) (λ c κs. search needs) (λ c κs. search needs) returns-2)
+unfolding first-fields
+take-fields-spec = tie.close (tie.spec (λ c κs. search needs) (λ c. rw (c .before .if1 .taken) (c .front .ensures)) (λ c. search needs)
+    (λ c κs. search needs) (λ c κs. search needs) returns-2)
