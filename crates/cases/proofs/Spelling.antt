@@ -1,8 +1,8 @@
 -- What a field spells, piece by piece: a byte as it stands, or what the next two braces hold.
 use Prim.Native.Nat.{ℕ, zero, suc, _+_, _-_, _≤_, _<_}
-use mathlib.Core.Path.{_≡_, refl, sym, ap, _∙_}
+use mathlib.Core.Path.{_≡_, refl, sym, ap, ap₂, _∙_}
 use mathlib.Core.Bool.{Bool, true, false, true≢false, _&&_, and-false}
-use mathlib.Core.List.{[], _∷_, _++_, map, append-assoc, append-nil}
+use mathlib.Core.List.{[], _∷_, _++_, map, map-append, append-assoc, append-nil}
 use mathlib.Core.Option.{none, some}
 use lib.ListN.{length, take, drop, getD, replicate, length-drop, drop-of-length-le}
 use lib.Dec.{ltb, eqb}
@@ -15,15 +15,9 @@ use Rattle.lent.specs.Scan.{upto, piece}
 use Rattle.lent.proofs.Scans.{next}
 use Rattle.lent.proofs.Pieces.{take-upto}
 use Rattle.cases.specs.Tables.{meant, laid, behind, number, repeated, braced, closed, unbraced, spelled}
-use Rattle.cases.proofs.Laying.{length-laid, behind-inside, behind-next, laid-next, behind-none, laid-none}
+use Rattle.cases.proofs.Laying.{spread, length-laid, behind-inside, spread-next, spread-none}
 
 -- ---- what stands in braces
-
-pub small-byte : (n : ℕ) → n < 256 → n ≡ (if ltb n 256 then n else 63)
-small-byte n h = rw (lt-ltb n 256 h)
-
-pub no-byte : (n : ℕ) → 256 ≤ n → 63 ≡ (if ltb n 256 then n else 63)
-no-byte n h = rw (le-ltb n 256 h)
 
 repeated-none : (n : ℕ) (x : Bytes) → length x ≡ 0 → repeated n x ≡ (if ltb n 256 then n else 63) ∷ []
 unfolding repeated
@@ -70,7 +64,7 @@ within-braces held (b ∷ bs) e = go (eqb b 125) refl (λ h. within-braces (held
     go true t ih = rw (t, within-one 125 b ∙ t, append-nil)
     go false t ih =
         rw (t, within-one 125 b ∙ t)
-        (ih t ∙ ap (λ (l : Bytes). braced l ++ unbraced none (drop (suc (length (upto 125 125 bs))) bs)) (append-assoc held (b ∷ []) (upto 125 125 bs)))
+        (rw append-assoc at (ih t))
 
 module _ (text : Bytes) (at : ℕ) (h : at < length text) where
   abbrev rest : Bytes
@@ -91,7 +85,7 @@ module _ (text : Bytes) (at : ℕ) (h : at < length text) where
     unfolding closed
     no-closing k =
         let unshut : closed rest ≡ false = le-ltb (length (upto 125 125 rest)) (length rest) (omega (arith, length-drop (at + 1) text)) in
-        first ∙ ap (λ (t : Bool). by-brace (eqb (getD text at 0) 123 && t)) unshut ∙ ap by-brace (and-false (eqb (getD text at 0) 123))
+        first ∙ rw (unshut, and-false)
 
     pub in-braces : getD text at 0 ≡ 123 → end < length text → (next count byte : ℕ) → next ≡ end + 1 → replicate count byte ≡ braced (take (end - (at + 1)) rest)
         → unbraced none (drop at text) ≡ replicate count byte ++ unbraced none (drop next text)
@@ -104,64 +98,32 @@ module _ (text : Bytes) (at : ℕ) (h : at < length text) where
         let held : take (end - (at + 1)) rest ≡ upto 125 125 rest = ap (λ (j : ℕ). take j rest) size ∙ take-upto 125 125 rest in
         let place : at + 1 + suc l ≡ next = omega arith in
         let behind : drop (suc l) rest ≡ drop next text = drop-drop (suc l) (at + 1) text ∙ ap (λ (j : ℕ). drop j text) place in
-        first ∙ ap by-brace here ∙ within-braces [] rest shut
-        ∙ ap (λ (s : Bytes). braced (upto 125 125 rest) ++ unbraced none s) behind
-        ∙ ap (λ (s : Bytes). braced s ++ unbraced none (drop next text)) (sym held)
-        ∙ ap (λ (s : Bytes). s ++ unbraced none (drop next text)) (sym r)
+        first ∙ ap by-brace here ∙ within-braces [] rest shut ∙ rw (behind, r, held)
 
 -- ---- the pieces as they are laid
-
-map-append : (f : ℕ → ℕ) (s t : Bytes) → map f (s ++ t) ≡ map f s ++ map f t
-map-append f [] t = refl
-map-append f (b ∷ s) t = ap (λ (l : Bytes). f b ∷ l) (map-append f s t)
 
 map-replicate : (f : ℕ → ℕ) (n b : ℕ) → map f (replicate n b) ≡ replicate n (f b)
 map-replicate f zero b = refl
 map-replicate f (suc n) b = ap (λ (l : Bytes). f b ∷ l) (map-replicate f n b)
 
 -- what the text from `at` on gives from place n is what the whole of it gives from the start
-module _ (marks : Bool) (text out₀ out : Bytes) (n at : ℕ) (inside : n ≤ length out)
-    (e : behind out₀ 0 (spelled marks text) ≡ behind out n (spelled marks (drop at text)))
-    (f : laid out₀ 0 (spelled marks text) ≡ laid out n (spelled marks (drop at text))) where
+module _ (marks : Bool) (text out : Bytes) (n at : ℕ) (inside : n ≤ length out) {whole : ℕ × Bytes} (e : whole ≡ spread out n (spelled marks (drop at text))) where
   module _ (next count byte : ℕ) (piece : unbraced none (drop at text) ≡ replicate count byte ++ unbraced none (drop next text))
       (b k : ℕ) (after : Bytes) (m : b ≡ meant marks byte) (g : k ≡ behind out n (replicate count b)) (l : after ≡ laid out n (replicate count b)) where
     parted : spelled marks (drop at text) ≡ replicate count b ++ spelled marks (drop next text)
     unfolding spelled
-    parted =
-        ap (map (meant marks)) piece ∙ map-append (meant marks) (replicate count byte) (unbraced none (drop next text))
-        ∙ ap (λ (s : Bytes). s ++ map (meant marks) (unbraced none (drop next text)))
-        (map-replicate (meant marks) count byte ∙ ap (replicate count) (sym m))
+    parted = rw (piece, map-append (meant marks), map-replicate (meant marks) count byte, m)
 
-    behind-more : behind out₀ 0 (spelled marks text) ≡ behind after k (spelled marks (drop next text))
-    behind-more =
-        e ∙ ap (behind out n) parted ∙ behind-next out n (replicate count b) inside (spelled marks (drop next text))
-        ∙ ap (λ (j : ℕ). behind (laid out n (replicate count b)) j (spelled marks (drop next text))) (sym g)
-        ∙ ap (λ (s : Bytes). behind s k (spelled marks (drop next text))) (sym l)
+    pub one-piece : (k ≤ length after) × (length after ≡ length out) × (whole ≡ spread after k (spelled marks (drop next text)))
+    one-piece =
+        let long = length-laid out n (replicate count b) inside in
+        let same : length after ≡ length out = ap length l ∙ long in (
+          omega (arith, same, long, behind-inside out n (replicate count b) inside),
+          same,
+          e ∙ ap (spread out n) parted ∙ spread-next out n (replicate count b) inside (spelled marks (drop next text))
+              ∙ ap₂ (λ (s : Bytes) (j : ℕ). spread s j (spelled marks (drop next text))) (sym l) (sym g),
+        )
 
-    laid-more : laid out₀ 0 (spelled marks text) ≡ laid after k (spelled marks (drop next text))
-    laid-more =
-        f ∙ ap (laid out n) parted ∙ laid-next out n (replicate count b) inside (spelled marks (drop next text))
-        ∙ ap (λ (j : ℕ). laid (laid out n (replicate count b)) j (spelled marks (drop next text))) (sym g)
-        ∙ ap (λ (s : Bytes). laid s k (spelled marks (drop next text))) (sym l)
-
-    same : length after ≡ length out
-    same = ap length l ∙ length-laid out n (replicate count b) inside
-
-    within-after : k ≤ length after
-    within-after = omega (arith, same, length-laid out n (replicate count b) inside, behind-inside out n (replicate count b) inside)
-
-    pub one-piece : (k ≤ length after)
-        × (length after ≡ length out)
-        × (behind out₀ 0 (spelled marks text) ≡ behind after k (spelled marks (drop next text)))
-        × (laid out₀ 0 (spelled marks text) ≡ laid after k (spelled marks (drop next text)))
-    one-piece = (within-after, same, behind-more, laid-more)
-
-  none-left : length text ≤ at → spelled marks (drop at text) ≡ []
+  pub all-pieces : length text ≤ at → (n, out) ≡ whole
   unfolding spelled unbraced
-  none-left h = ap (spelled marks) (drop-of-length-le text h)
-
-  pub all-pieces : length text ≤ at → (n ≡ behind out₀ 0 (spelled marks text)) × (out ≡ laid out₀ 0 (spelled marks text))
-  all-pieces h = (
-    behind-none out n inside ∙ ap (behind out n) (sym (none-left h)) ∙ sym e,
-    laid-none out n inside ∙ ap (laid out n) (sym (none-left h)) ∙ sym f,
-  )
+  all-pieces h = sym (e ∙ ap (λ (s : Bytes). spread out n (spelled marks s)) (drop-of-length-le text h) ∙ spread-none out n inside)

@@ -1,6 +1,6 @@
 -- What a table of cases spells: numbers, bytes in braces, marks as they are drawn; and how much of a text is laid into a buffer.
 use Prim.Native.Nat.{ℕ, _+_, _-_, _*_, min}
-use mathlib.Core.Bool.{Bool, _&&_}
+use mathlib.Core.Bool.{Bool, true, _&&_}
 use mathlib.Core.List.{[], _∷_, _++_, map}
 use mathlib.Core.Option.{Option, none, some}
 use lib.Dec.{ltb, eqb}
@@ -72,3 +72,20 @@ unbraced (some held) (b ∷ bs) =
 -- the bytes that a field stands for
 unfoldable pub spelled : Bool → Bytes → Bytes
 spelled marks text = map (meant marks) (unbraced none text)
+
+-- field k of a case, whose fields are parted by bars
+abbrev pub in-field : ℕ → Bytes → Bytes
+in-field k line = piece (ch "|") k line
+
+-- number k of the address that is field 1
+abbrev pub typed-part : ℕ → Bytes → ℕ
+typed-part k line = number (piece (ch ",") k (in-field 1 line))
+
+-- the number of a field, or the usual one where it is empty
+unfoldable pub number-or : ℕ → Bytes → ℕ
+number-or usual text = if eqb (length text) 0 then usual else number text
+
+-- whether all bytes are zeros
+unfoldable pub all-zeros : Bytes → Bool
+all-zeros [] = true
+all-zeros (b ∷ bs) = eqb b 0 && all-zeros bs

@@ -1,6 +1,8 @@
 // What the programs over tables of cases share: the fields of a case and the bytes that they spell, and a text with its marks drawn.
 // A table has a case to a line, its fields parted by a byte; long elements and marks may be spelled in braces, so that a table is plain text.
-// Every contract is an equality with a definition of specs/Tables.antt; writing is left to the programs, since no contract can say what it wrote.
+// Every contract is an equality with a definition of specs/Tables.antt.
+pub mod lines;
+
 use paper::Mark;
 ghost use mathlib.Core.Path.{_≡_};
 ghost use mathlib.Core.List.{_++_, map};

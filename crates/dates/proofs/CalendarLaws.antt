@@ -1,19 +1,18 @@
 -- The year and the month of a day by a division and one comparison are those of the definitions. Assumes nothing.
 use Prim.Native.Nat.{ℕ, zero, suc, _+_, _-_, _*_, _/_, _≤_, _<_}
 use mathlib.Core.Path.{_≡_, refl}
-use mathlib.Core.Bool.{Bool, true, false, _&&_, and-true, and-false}
+use mathlib.Core.Bool.{Bool, true, false}
 use mathlib.Core.List.{List, [], _∷_}
 use native.Mathlib.Nat.{not-suc-le-zero}
 use native.Mathlib.Numerals.{add-one, add-two, sub-one}
 use native.Mathlib.Omega.{arith}
 use lib.ListN.{length, getD}
-use lib.Dec.{leb, ltb}
+use lib.Dec.{leb}
 use borrow.Author.Tests.{le-leb, lt-leb, leb-true}
 use Rattle.paper.specs.Bytes.{if_then_else_}
 use Rattle.paper.specs.Dates.{Date, leap, month-lengths, days-before-year, days-in, days-to, year-of, month-day}
-use Rattle.paper.specs.TypedDates.{in-calendar}
-use Rattle.paper.proofs.Calendar.{all-within, both, lengths-by, lengths-are, month-most-by, months-fill, year-length, twelve, year-day-at}
-use Rattle.numbers.proofs.Table.{below, passed}
+use Rattle.paper.proofs.Calendar.{all-within, lengths-by, lengths-are, month-most-by, months-fill, year-length, twelve, year-day-at}
+use Rattle.paper.proofs.Truths.{both, below, passed}
 use Rattle.dates.specs.Dated.{code-date}
 
 -- the year after the one that division gives, or that one
@@ -106,17 +105,3 @@ pub days-sum : (d : Date) (a b : ℕ) → a ≡ days-before-year (d .year) → b
     → a + b + (d .day - 1) ≡ days-to d
 unfolding days-to
 days-sum d a b p q = rw (p, q, sub-one (d .month), sub-one (d .day))
-
--- the three answers of `in_calendar`
-pub month-below : (d : Date) → d .month < 1 → false ≡ in-calendar d
-unfolding in-calendar
-month-below d h = simp (lt-leb 1 (d .month) h, and-false)
-
-pub month-above : (d : Date) → 12 < d .month → false ≡ in-calendar d
-unfolding in-calendar
-month-above d h = simp (lt-leb (d .month) 12 h, and-false)
-
-pub month-within : (d : Date) (l : ℕ) → 1 ≤ d .month → d .month ≤ 12 → l ≡ getD (month-lengths (d .year)) (d .month - 1) 0
-    → (ltb 0 (d .year) && (leb 1 (d .day) && leb (d .day) l)) ≡ in-calendar d
-unfolding in-calendar
-month-within d l h k e = simp (e, sub-one, le-leb 1 (d .month) h, le-leb (d .month) 12 k, and-true)

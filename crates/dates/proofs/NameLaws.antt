@@ -14,7 +14,7 @@ use Rattle.paper.specs.Texts.{raised}
 use Rattle.paper.specs.Grammar.{Reader, gives}
 use Rattle.paper.specs.Dates.{month-names}
 use Rattle.paper.specs.TypedDates.{month-called, typed-month, typed-letter}
-use Rattle.paper.proofs.Calendar.{both}
+use Rattle.paper.proofs.Truths.{both}
 use Rattle.dates.specs.Scans.{named}
 use Rattle.dates.proofs.Tables.{names, three, name-at, same-bytes-eq}
 

@@ -4,12 +4,12 @@ use mathlib.Core.Path.{_≡_, refl, sym, _∙_, ap}
 use mathlib.Core.Bool.{Bool, true, false}
 use mathlib.Core.List.{[], _∷_, _++_}
 use mathlib.Core.Option.{Option, none, some}
-use native.Mathlib.Numerals.{add-one, sub-one}
+use borrow.Author.Needs.{zero≤}
+use native.Mathlib.Numerals.{sub-one}
 use native.Mathlib.Omega.{arith}
 use lib.ListN.{length, take, drop, getD, set, length-append}
-use lib.Seq.{append-snoc, set-split}
 use lib.Dec.{leb}
-use borrow.Author.Tests.{le-leb, lt-leb, leb-true}
+use borrow.Author.Tests.{le-leb, leb-true}
 use Rattle.paper.specs.Bytes.{Bytes, if_then_else_}
 use Rattle.paper.specs.Sizes.{entry-most}
 use Rattle.paper.specs.Refusals.{Res, given, refused, refuse_unless_, _>>=_, _>>_}
@@ -20,8 +20,9 @@ use Rattle.paper.specs.Dates.{Date, month-names, ranged-day, year-text, date-of
 use Rattle.paper.specs.declared.Given.the-variants.{Length, Refused}
 use Rattle.paper.proofs.Calendar.{calendar-parts, date-of-in-calendar}
 use Rattle.paper.proofs.Numerals.{length-digits}
-use Rattle.lent.specs.Over.{over}
-use Rattle.lent.proofs.Laws.{over-is, over-none, length-over, over-front, over-over}
+use Rattle.lent.specs.Over.{over, Laid}
+use Rattle.lent.proofs.Laws.{over-as, over-none, over-front}
+use Rattle.lent.proofs.Laying.{laid-at, laid-one, laid-behind}
 use Rattle.numbers.specs.Forms.{convertible}
 use Rattle.numbers.proofs.FormLaws.{empty-stays, converts}
 use Rattle.dates.specs.declared.Date.{Date as Coded-date}
@@ -30,25 +31,9 @@ use Rattle.dates.specs.Dated.{code-date, ranged-of, ranged-refusal}
 use Rattle.dates.specs.Scans.{dated-text}
 use Rattle.dates.proofs.Tables.{names, name-at, part-at}
 
--- digits, and one byte, laid over a buffer
+-- digits laid over a buffer
 pub digits-laid : (d : Bytes) (at k n : ℕ) → take at d ++ digits k n ++ drop (at + k) d ≡ over d at (digits k n)
-digits-laid d at k n = sym (over-is d at (digits k n) ∙ rw (length-digits k n))
-
-byte-laid : (d : Bytes) (at s : ℕ) → at < length d → set d at s ≡ over d at (s ∷ [])
-byte-laid d at s h = set-split d at s h ∙ sym (over-is d at (s ∷ []) ∙ rw (add-one at) (append-snoc (take at d) s (drop (suc at) d)))
-
--- a piece behind a piece
-behind : (d : Bytes) (at place : ℕ) (s t : Bytes) → place ≡ at + length s → place + length t ≤ length d
-    → over (over d at s) place t ≡ over d at (s ++ t)
-behind d at place s t e h = rw e (over-over d at s t (rw e at h))
-
--- the answer of `pair_text`
-pub pair-laid : (held mid : Bytes) (number s : ℕ) → 3 ≤ length held → mid ≡ take 0 held ++ digits 2 number ++ drop (0 + 2) held
-    → set mid 2 s ≡ over held 0 (digits 2 number ++ s ∷ [])
-pair-laid held mid number s h e =
-    let laid : mid ≡ over held 0 (digits 2 number) = e ∙ digits-laid held 0 2 number in
-    let long : length mid ≡ length held = ap length laid ∙ length-over held 0 (digits 2 number) (omega (arith, length-digits 2 number)) in
-    byte-laid mid 2 s (omega arith) ∙ rw laid (behind held 0 2 (digits 2 number) (s ∷ []) (omega (arith, length-digits 2 number)) h)
+digits-laid d at k n = over-as d at (digits k n) (length-digits k n)
 
 -- the answer of `name_text`
 pub name-laid : (held last : Bytes) (month : ℕ) → 1 ≤ month → month ≤ 12
@@ -68,68 +53,38 @@ pub year-laid : (held last : Bytes) (at n s year : ℕ) → at + 5 ≤ length he
     → (n + 1 ≡ length (year-text n s year)) × (last ≡ over held at (year-text n s year))
 unfolding year-text
 year-laid held last at zero s year h k nz e = absurd (nz refl)
-year-laid held last at (suc n) s year h k nz e = (
-  omega (arith, length-digits (suc n) year),
-  e ∙ digits-laid (set held at s) (at + 1) (suc n) year
-      ∙ rw (byte-laid held at s (omega arith))
-      (behind held at (at + 1) (s ∷ []) (digits (suc n) year) refl (omega (arith, length-digits (suc n) year))),
-)
+year-laid held last at (suc n) s year h k nz e =
+    let both : Laid (s ∷ [] ++ digits (suc n) year) held (at + 1 + suc n) last at
+    = laid-behind (laid-one held at s refl (omega arith)) (laid-at (e ∙ digits-laid (set held at s) (at + 1) (suc n) year) (rw (length-digits (suc n) year))) (omega arith) in
+    (omega (arith, both .place), both .bytes)
 
 pub year-most : (n s year : ℕ) → n ≤ 4 → length (year-text n s year) ≤ 5
 unfolding year-text
 year-most zero s year h = omega arith
 year-most (suc n) s year h = omega (arith, length-digits (suc n) year)
 
--- three pieces, one behind the other
-three-laid : (held one two last a b c : Bytes) (i j : ℕ) → one ≡ over held 0 a → i ≡ length a → two ≡ over one i b → j ≡ i + length b
-    → last ≡ over two j c → j + length c ≤ length held → last ≡ over held 0 (a ++ b ++ c)
-three-laid held one two last a b c i j p e q f r h =
-    let first : two ≡ over held 0 (a ++ b) = q ∙ rw p (behind held 0 i a b (omega arith) (omega arith)) in
-    r ∙ rw first (behind held 0 j (a ++ b) c (omega (arith, length-append a b)) h)
-
 name-long : (k : ℕ) → k < 12 → length (getD month-names k []) ≡ 3
 name-long k h = ap length (name-at k h)
 
 -- the answers of `date_text`
-pub lettered-laid : (held one two last : Bytes) (n r : ℕ) (d : Date) → 11 ≤ length held → n ≤ 4 → 1 ≤ d .month → d .month ≤ 12
+pub lettered-laid : (held one two last : Bytes) (n r : ℕ) (d : Date) → 1 ≤ d .month → d .month ≤ 12
     → one ≡ over held 0 (digits 2 (d .day) ++ 32 ∷ []) → two ≡ over one 3 (getD month-names (pred (d .month)) [])
     → last ≡ over two 6 (year-text n 32 (d .year)) → r ≡ length (year-text n 32 (d .year))
     → (r + 6 ≡ length (date-text n none d)) × (last ≡ over held 0 (date-text n none d))
 unfolding date-text digits
-lettered-laid held one two last n r d h k m m′ p q t e =
-    let name = name-long (pred (d .month)) (omega arith) in (
-      omega (arith, name, length-append (getD month-names (pred (d .month)) []) (year-text n 32 (d .year))),
-      three-laid held one two last (digits 2 (d .day) ++ 32 ∷ []) (getD month-names (pred (d .month)) []) (year-text n 32 (d .year)) 3 6
-          p refl q (omega arith) t (omega (arith, year-most n 32 (d .year) k)),
-    )
+lettered-laid held one two last n r d m m′ p q t e =
+    let name = name-long (pred (d .month)) (omega arith) in
+    let all : Laid (date-text n none d) held (r + 6) last 0 = laid-behind (laid-behind (laid-at p refl) (laid-at {end = 6} q (omega arith)) zero≤) (laid-at t (omega arith)) zero≤ in
+    (omega (arith, all .place), all .bytes)
 
-pub numbered-laid : (held one two last : Bytes) (n s r : ℕ) (d : Date) → 11 ≤ length held → n ≤ 4
+pub numbered-laid : (held one two last : Bytes) (n s r : ℕ) (d : Date)
     → one ≡ over held 0 (digits 2 (d .month) ++ s ∷ []) → two ≡ take 3 one ++ digits 2 (d .day) ++ drop (3 + 2) one
     → last ≡ over two 5 (year-text n s (d .year)) → r ≡ length (year-text n s (d .year))
     → (r + 5 ≡ length (date-text n (some s) d)) × (last ≡ over held 0 (date-text n (some s) d))
 unfolding date-text digits
-numbered-laid held one two last n s r d h k p q t e = (
-  omega arith,
-  three-laid held one two last (digits 2 (d .month) ++ s ∷ []) (digits 2 (d .day)) (year-text n s (d .year)) 3 5
-      p refl (q ∙ digits-laid one 3 2 (d .day)) refl t (omega (arith, year-most n s (d .year) k)),
-)
-
--- the answers of `ranged_day`: days before day zero, and from it on
-pub before-zero : (x : Number) → x .negative ≡ true → x .size ≤ 718_430 → Ranged.Day (718_430 - x .size) ≡ ranged-of (ranged-day x)
-unfolding ranged-day ranged-of
-before-zero x s h = rw (s, le-leb (x .size) 718_430 h)
-
-pub too-early : (x : Number) → x .negative ≡ true → 718_430 < x .size → Ranged.Refused 10 ≡ ranged-of (ranged-day x)
-unfolding ranged-day ranged-of
-too-early x s h = rw (s, lt-leb (x .size) 718_430 h)
-
-pub from-zero : (x : Number) → x .negative ≡ false → x .size ≤ 2_933_628 → Ranged.Day (718_430 + x .size) ≡ ranged-of (ranged-day x)
-unfolding ranged-day ranged-of
-from-zero x s h = rw (s, le-leb (x .size) 2_933_628 h)
-
-pub too-late : (x : Number) → x .negative ≡ false → 2_933_628 < x .size → Ranged.Refused 10 ≡ ranged-of (ranged-day x)
-unfolding ranged-day ranged-of
-too-late x s h = rw (s, lt-leb (x .size) 2_933_628 h)
+numbered-laid held one two last n s r d p q t e =
+    let all : Laid (date-text n (some s) d) held (r + 5) last 0 = laid-behind (laid-behind (laid-at p refl) (laid-at (q ∙ digits-laid one 3 2 (d .day)) refl) zero≤) (laid-at t (omega arith)) zero≤ in
+    (omega (arith, all .place), all .bytes)
 
 -- what a day in its range is, and what is refused: 10 alone
 pub data Reached : Res ℕ → Type 0 where

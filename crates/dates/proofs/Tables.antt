@@ -9,8 +9,8 @@ use lib.Dec.{eqb, ltb}
 use borrow.Author.Tests.{eqb-true}
 use Rattle.paper.specs.Bytes.{if_then_else_, bytes, same-bytes}
 use Rattle.paper.specs.Dates.{leap, month-lengths, month-names, days-in}
-use Rattle.paper.proofs.Calendar.{both, lengths-by, lengths-are, within-all}
-use Rattle.numbers.proofs.Table.{below, passed}
+use Rattle.paper.proofs.Calendar.{lengths-by, lengths-are, within-all}
+use Rattle.paper.proofs.Truths.{both, below, passed}
 
 -- the lengths of the months of a common year
 abbrev pub lengths : List ℕ

@@ -1,28 +1,21 @@
 -- The readers of a typed date, piece by piece: each is what its first digit, letter or separator decides. Assumes nothing.
-use Prim.Native.Nat.{ℕ, zero, suc, _+_, _-_, _*_, _≤_, _<_}
+use Prim.Native.Nat.{ℕ, zero, suc, _+_, _*_, _≤_}
 use mathlib.Core.Path.{_≡_, refl, _∙_, ap}
 use mathlib.Core.Bool.{Bool, true, false}
 use mathlib.Core.List.{[], _∷_}
 use mathlib.Core.Option.{Option, none, some}
-use native.Mathlib.Numerals.{add-one}
 use native.Mathlib.Omega.{arith}
-use lib.ListN.{length, drop, getD, length-drop, drop-of-length-le}
-use lib.Seq.{drop-cons}
-use borrow.Author.Tests.{le-leb, lt-leb, lt-ltb, eq-eqb, ne-eqb}
-use Rattle.paper.specs.Bytes.{Bytes, if_then_else_, is-digit, is-lower, digit-value}
-use Rattle.paper.specs.Texts.{raised}
-use Rattle.paper.proofs.Ranges.{within-yes, within-below, within-above}
+use lib.ListN.{length, drop}
+use Rattle.paper.specs.Bytes.{Bytes, if_then_else_, is-digit, digit-value}
 use Rattle.paper.specs.Grammar.{Reader, follow, all-read, ahead, this, numeral, more-digits}
 use Rattle.dates.specs.declared.Read.{Read}
 use Rattle.dates.specs.declared.Read.the-variants.{Found}
 use Rattle.dates.specs.Scans.{found, Within, read-refusal, further, parting, second, ordered, dated, form, day-of}
-use Rattle.paper.specs.Refusals.{given}
-use Rattle.paper.specs.Numbers.{plus, natural, signed}
-use Rattle.paper.specs.Dates.{Date, days-to, day-zero}
+use Rattle.paper.specs.Dates.{Date}
 use Rattle.dates.specs.declared.TypedDay.{TypedDay}
-use Rattle.dates.specs.declared.TypedDay.the-variants.{Day, Refused}
+use Rattle.dates.specs.declared.TypedDay.the-variants.{Refused}
 use Rattle.dates.specs.Dated.{typed-of}
-use Rattle.paper.specs.TypedDates.{typed-digit, typed-pair, typed-year, typed-form, in-calendar, typed, century}
+use Rattle.paper.specs.TypedDates.{typed-digit, typed-pair, typed-year, typed-form, typed, century}
 
 -- what a call that found something has read, and within which bounds
 pub record Seen (x : Option (ℕ × Bytes)) (most : ℕ) (text : Bytes) (value next : ℕ) : Type 0 where
@@ -49,39 +42,6 @@ day-passed most {n} text r w f k = let e : n ≡ 12 = rw f at w in ap Refused (k
 pub within-more : {m n : ℕ} (text : Bytes) (r : Read) → m ≤ n → Within m text r → Within n text r
 within-more text (Found value next) h w = (omega arith, w .1)
 within-more text (Read.Refused n) h w = w
-
--- the bytes that are digits, and those below and above them
-digit-within : (b : ℕ) → 48 ≤ b → b ≤ 57 → is-digit b ≡ true
-unfolding is-digit
-digit-within b h k = within-yes 48 57 b h (omega arith)
-
-digit-below : (b : ℕ) → b < 48 → is-digit b ≡ false
-unfolding is-digit
-digit-below b h = within-below 48 57 b h
-
-digit-above : (b : ℕ) → 57 < b → is-digit b ≡ false
-unfolding is-digit
-digit-above b h = within-above 48 57 b h
-
--- a digit at a place, and its lack
-pub further-end : (n : ℕ) (text : Bytes) (at : ℕ) → at ≡ length text → further n (drop at text) ≡ none
-unfolding further typed-digit numeral
-further-end n text at h = rw (drop-of-length-le text {i = at} (omega arith))
-
-pub further-here : (n : ℕ) (text : Bytes) (at : ℕ) → at < length text → 48 ≤ getD text at 0 → getD text at 0 ≤ 57
-    → further n (drop at text) ≡ some (n * 10 + (getD text at 0 - 48), drop (at + 1) text)
-unfolding further typed-digit numeral more-digits digit-value
-further-here n text at h l k = rw (drop-cons text at 0 h, digit-within _ l k, add-one)
-
-further-not : (n : ℕ) (text : Bytes) (at : ℕ) → at < length text → is-digit (getD text at 0) ≡ false → further n (drop at text) ≡ none
-unfolding further typed-digit numeral
-further-not n text at h t = rw (drop-cons text at 0 h, t)
-
-pub further-less : (n : ℕ) (text : Bytes) (at : ℕ) → at < length text → getD text at 0 < 48 → further n (drop at text) ≡ none
-further-less n text at h l = further-not n text at h (digit-below _ l)
-
-pub further-more : (n : ℕ) (text : Bytes) (at : ℕ) → at < length text → 57 < getD text at 0 → further n (drop at text) ≡ none
-further-more n text at h l = further-not n text at h (digit-above _ l)
 
 -- a reader that looks for a digit goes on as one digit more decides
 abbrev pub either : {A : Type 0} → Option (ℕ × Bytes) → (ℕ → Reader A) → Option (A × Bytes) → Option (A × Bytes)
@@ -162,42 +122,6 @@ year-is bs =
     (λ a rest. digit-further a year-ahead rest
     ∙ follow-same (further a rest) year-ahead year-after (λ y end. ahead-further y further (λ rest. some (century y, rest)) end))
 
-pub late-century : (y : ℕ) → 30 ≤ y → 1900 + y ≡ century y
-unfolding century
-late-century y h = rw (le-leb 30 y h)
-
-pub early-century : (y : ℕ) → y < 30 → 2000 + y ≡ century y
-unfolding century
-early-century y h = rw (lt-leb 30 y h)
-
--- "in either case"
-pub raise-small : (b : ℕ) → 97 ≤ b → b ≤ 122 → b - 32 ≡ raised b
-unfolding raised is-lower
-raise-small b h k = rw (within-yes 97 122 b h (omega arith))
-
-pub raise-below : (b : ℕ) → b < 97 → b ≡ raised b
-unfolding raised is-lower
-raise-below b h = rw (within-below 97 122 b h)
-
-pub raise-above : (b : ℕ) → 122 < b → b ≡ raised b
-unfolding raised is-lower
-raise-above b h = rw (within-above 97 122 b h)
-
--- the answers of `parted`
-pub parting-end : (s value : ℕ) (text : Bytes) (next : ℕ) → next ≡ length text → parting s value (drop next text) ≡ none
-unfolding parting this
-parting-end s value text next h = rw (drop-of-length-le text {i = next} (omega arith))
-
-pub parting-here : (s value : ℕ) (text : Bytes) (next : ℕ) → next < length text → s ≡ getD text next 0
-    → parting s value (drop next text) ≡ some (value, drop (next + 1) text)
-unfolding parting this
-parting-here s value text next h e = rw (drop-cons text next 0 h, eq-eqb s (getD text next 0) e, add-one)
-
-pub parting-other : (s value : ℕ) (text : Bytes) (next : ℕ) → next < length text → (s ≡ getD text next 0 → ⊥)
-    → parting s value (drop next text) ≡ none
-unfolding parting this
-parting-other s value text next h e = rw (drop-cons text next 0 h, ne-eqb s (getD text next 0) e)
-
 -- a piece and its separator
 parting-then : {B : Type 0} (s : ℕ) (r : Option (ℕ × Bytes)) (k : ℕ → Reader B)
     → follow r (λ x bs. follow (this s bs) (λ _. k x)) ≡ follow (follow r (parting s)) k
@@ -234,49 +158,13 @@ pub joined : {x : Option (ℕ × Bytes)} (text : Bytes) (r p : Read) (s : ℕ) �
     → follow (found text r) (parting s) ≡ found text p → follow x (parting s) ≡ found text p
 joined text r p s e f = rw e f
 
--- the answers of `ended`
-pub ended-short : (text : Bytes) (letters : Bool) (a b year next : ℕ) → next < length text
-    → all-read (follow (some (year, drop next text)) (dated letters a b)) ≡ none
-unfolding dated
-ended-short text letters a b year next h = rw (length-drop, ne-eqb (length text - next) 0 (omega arith))
-
-pub ended-whole : (text : Bytes) (letters : Bool) (a b year next : ℕ) → length text ≤ next
-    → all-read (follow (some (year, drop next text)) (dated letters a b)) ≡ some (ordered letters a b year)
-unfolding dated
-ended-whole text letters a b year next h = rw (length-drop, eq-eqb (length text - next) 0 (omega arith))
-
+-- the year of a date in either order
 pub ordered-year : (letters : Bool) (a b year : ℕ) → ordered letters a b year .year ≡ year
 unfolding ordered
 ordered-year true a b year = refl
 ordered-year false a b year = refl
 
--- the answers of `from_zero` and `day_of`
-pub day-after : (n : ℕ) → 718_430 ≤ n → Day false (n - 718_430) ≡ typed-of (given (plus (natural n) (signed true day-zero)))
-unfolding typed-of plus natural signed
-day-after n h = rw (le-leb 718_430 n h)
-
-pub day-before : (n : ℕ) → n < 718_430 → Day true (718_430 - n) ≡ typed-of (given (plus (natural n) (signed true day-zero)))
-unfolding typed-of plus natural signed
-day-before n h = rw (lt-leb 718_430 n h, lt-ltb 0 (718_430 - n) (omega arith))
-
-pub day-known : (d : Date) (n : ℕ) (r : TypedDay) → in-calendar d ≡ true → n ≡ days-to d
-    → r ≡ typed-of (given (plus (natural n) (signed true day-zero))) → r ≡ day-of (some d)
-unfolding day-of
-day-known d n r t e h = rw (t, ← e) h
-
-pub day-unknown : (d : Date) → in-calendar d ≡ false → Refused 12 ≡ day-of (some d)
-unfolding day-of typed-of
-day-unknown d t = rw t
-
-pub day-none : Refused 12 ≡ day-of none
-unfolding day-of typed-of
-day-none = refl
-
 -- the answers of `typed_date`
-pub typed-zero : (n : ℕ) (s : Option ℕ) (text : Bytes) → n ≡ 0 → Refused 12 ≡ typed-of (typed n s text)
-unfolding typed-of typed
-typed-zero n s text h = rw h
-
 typed-any : (n : ℕ) (s : Option ℕ) (text : Bytes) (r : TypedDay) → (n ≡ 0 → ⊥) → r ≡ day-of (all-read (typed-form s text))
     → r ≡ typed-of (typed n s text)
 unfolding typed day-of

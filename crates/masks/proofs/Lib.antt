@@ -1,5 +1,4 @@
 pub mod GroupLaws
-pub mod LaidLaws
 pub mod LayoutLaws
 pub mod MaskLaws
 pub mod PieceLaws

@@ -12,9 +12,10 @@ use Rattle.paper.specs.Numbers.{Number, digits, decimal}
 use Rattle.paper.specs.Codes.{Credit, Mask}
 use Rattle.paper.specs.Masks.{integer-text, point-text, digits-text, before-digits, after-digits, masked-text}
 use Rattle.paper.proofs.Numerals.{length-digits, length-decimal}
-use Rattle.lent.specs.Over.{over}
-use Rattle.masks.specs.Pieces.{Laid, when, or-blank}
-use Rattle.masks.proofs.LaidLaws.{laid-in-front, laid-as}
+use Rattle.lent.proofs.Laws.{over-as}
+use Rattle.lent.specs.Over.{Laid}
+use Rattle.masks.specs.Pieces.{when, or-blank}
+use Rattle.lent.proofs.Laying.{laid-ahead, laid-as}
 use Rattle.masks.proofs.GroupLaws.{parted, length-parted}
 
 pub length-when : (on : Bool) (b : ℕ) → length (when on b) ≤ 1
@@ -29,9 +30,8 @@ no-point decimals size e = rw e
 
 pub laid-digits : (d after : Bytes) (at count n : ℕ) → count ≤ at
     → after ≡ take (at - count) d ++ digits count n ++ drop (at - count + count) d → Laid (digits count n) d at after (at - count)
-unfolding over
 laid-digits d after at count n room e =
-    record { place = omega (arith, length-digits count n); bytes = e ∙ rw (length-digits count n) }
+    record { place = omega (arith, length-digits count n); bytes = e ∙ over-as d (at - count) (digits count n) (length-digits count n) }
 
 pub pointed : (decimals size : ℕ) → (decimals ≡ 0 → ⊥) → 46 ∷ [] ++ digits decimals size ≡ point-text decimals size
 unfolding point-text
@@ -107,10 +107,7 @@ texted : (k : Mask) (y : Number) (b : ℕ) → when (ltb 0 b) b ≡ before-digit
     ++ (integer-text (k .commas) (y .size / 10 ^ k .decimals) ++ point-text (k .decimals) (y .size) ++ after-digits (k .credits) y))
     ≡ masked-text k y
 unfolding masked-text digits-text when bytes
-texted k y b e =
-    rw (signed-by (k .credits) (y .negative) b e)
-    (sym (append-assoc ((if k .dollar then bytes "$" else []) ++ before-digits (k .credits) (y .negative)) (digits-text k (y .size)) (after-digits (k .credits) y)
-    ∙ append-assoc (if k .dollar then bytes "$" else []) (before-digits (k .credits) (y .negative)) (digits-text k (y .size) ++ after-digits (k .credits) y)))
+texted k y b e = rw (signed-by (k .credits) (y .negative) b e) (simp append-assoc)
 
 pub laid-text : (k : Mask) (y : Number) (b : ℕ) {before suffixed numbered signed text : Bytes} {suffix digits sign r : ℕ}
     → when (ltb 0 b) b ≡ before-digits (k .credits) true → Laid (after-digits (k .credits) y) before (length before) suffixed suffix
@@ -119,7 +116,7 @@ pub laid-text : (k : Mask) (y : Number) (b : ℕ) {before suffixed numbered sign
     → Laid (masked-text k y) before (length before) text r
 laid-text k y b {before} e suffixed numbered signed dollar =
     let fits = le-refl (length before) in
-    laid-as (texted k y b e) (laid-in-front fits (laid-in-front fits (laid-in-front fits suffixed numbered) signed) dollar)
+    laid-as (texted k y b e) (laid-ahead (laid-ahead (laid-ahead suffixed numbered fits) signed fits) dollar fits)
 
 -- no text is longer than the buffer
 length-before : (credits : Credit) (negative : Bool) → length (before-digits credits negative) ≤ 1

@@ -38,13 +38,6 @@ unfolding rounded
 rounded-one true size = rw (mod-one size, div-one size)
 rounded-one false size = rw (mod-one size, div-one size)
 
--- by the test that the code makes first
-pub rounded-by : (negative up : Bool) (size over : ℕ)
-    → up ≡ (if negative then ltb over (2 * (size % over)) else leb over (2 * (size % over)))
-    → (if up then size / over + 1 else size / over) ≡ rounded negative size over
-unfolding rounded
-rounded-by negative up size over e = ap (λ (t : Bool). if t then size / over + 1 else size / over) e
-
 pub power-within : (k : ℕ) → k ≤ 9 → (0 < 10 ^ k) × (10 ^ k ≤ number-most)
 power-within k h = (pow-pos k, omega (arith, pow-le-pow-right {n = 10} (omega arith) {i = k} {j = 9} h))
 

@@ -14,7 +14,8 @@ ghost use Rattle.paper.specs.Sizes.{number-most};
 ghost use Rattle.paper.specs.Masks.{integer-text, point-text, before-digits, after-digits, masked-text};
 ghost use Rattle.numbers.specs.Forms.{whole};
 ghost use Rattle.codes.specs.Meaning.{credit-of, mask-of};
-ghost use Rattle.masks.specs.Pieces.{Laid, when, or-blank};
+ghost use Rattle.lent.specs.Over.{Laid};
+ghost use Rattle.masks.specs.Pieces.{when, or-blank};
 
 // "`$` is the leftmost byte of the text, left of any `<`."
 pub(crate) fn masked_text(text: &mut [u8], y: Number, mask: Mask) -> usize

@@ -1,9 +1,8 @@
 -- `cases::field` meets its contract: the fields before it are passed one by one. Assumes nothing.
-use Prim.Native.Nat.{ℕ, _-_, _≤_}
-use mathlib.Core.Path.{_≡_, sym, ap}
+use Prim.Native.Nat.{_-_, _≤_}
+use mathlib.Core.Path.{_≡_}
 use native.Mathlib.Nat.{sub-zero}
 use native.Mathlib.Omega.{arith}
-use denote.Ref.{now}
 use lib.ListN.{length, drop}
 use Rattle.lent.specs.Scan.{piece}
 use Rattle.cases.proofs.Fields.{field-here, field-later, field-missing}
@@ -16,47 +15,32 @@ Inv-loop text number parted at₀ k₀ at k = (at ≤ length text) × (k ≤ num
 abbrev μ-loop : tie.MeasureT-loop
 μ-loop text number parted at₀ k₀ at k = number - k
 
-loop-holds : tie.Need-loop-holds Inv-loop μ-loop
-loop-holds c = (omega arith, omega arith, ap (λ (j : ℕ). piece (c .before .args .parted) j (now (c .before .args .text))) (sym (sub-zero (c .before .args .number))))
-
 returns : tie.Need-returns Inv-loop μ-loop
 returns c =
-    let a = c .before .before .before .before .before .before .args in
     let l = c .before .before .before .before .loop in
-    field-missing (a .parted) (a .number) (now (a .text)) (l .at) (l .k) (l .inv .0) (l .inv .2) (c .before .before .place .ensures .1) (c .before .before .before .loop-test .taken) (omega (arith, c .before .if1 .taken))
+    field-missing _ _ _ (l .at) (l .k) (l .inv .0) (l .inv .2) (c .before .before .place .ensures .1) (c .before .before .before .loop-test .taken) (omega (arith, c .before .if1 .taken))
 
 loop-again : tie.Need-loop-again Inv-loop μ-loop
 loop-again c =
-    let a = c .before .before .before .before .before .args in
-    let l = c .before .before .before .loop in (
-      omega (arith, c .before .place .ensures),
-      omega arith,
-      field-later (a .parted) (a .number) (now (a .text)) (l .at) (l .k) (l .inv .0) (l .inv .2) (c .before .place .ensures .1) (c .before .before .loop-test .taken),
-    )
+    let l = c .before .before .before .loop in
+    let later = field-later _ _ _ (l .at) (l .k) (l .inv .0) (l .inv .2) (c .before .place .ensures .1) (c .before .before .loop-test .taken) in
+    (omega (arith, c .before .place .ensures), omega arith, later)
 
 returns-2 : tie.Need-returns-2 Inv-loop μ-loop
-returns-2 c =
-    let a = c .before .before .before .before .before .args in
-    let l = c .before .before .before .loop in
-    field-here (a .parted) (a .number) (now (a .text)) (l .at) (l .k) (l .inv .0) (l .inv .2) (c .before .place2 .ensures .1) (c .before .before .loop-test .left)
+returns-2 c = let l = c .before .before .before .loop in field-here _ _ _ (l .at) (l .k) (l .inv .0) (l .inv .2) (c .before .place2 .ensures .1) (c .before .before .loop-test .left)
 
 pub field-spec : {M : Type 1} → statement M
 field-spec =
     tie.close
-    (tie.spec
-    Inv-loop
-    μ-loop
-    loop-holds
+    (tie.spec Inv-loop μ-loop
+    (λ c. (omega arith, omega arith, rw sub-zero))
     (λ c κs. omega arith)
     (λ c. omega (arith, c .before .place .ensures))
     (λ c. omega (arith, c .before .place .ensures))
     (λ c. omega (arith, c .before .place .ensures))
     returns
     (λ c. omega (arith, c .before .place .ensures))
-    (λ c. omega arith)
-    (λ c. omega arith)
-    loop-again
-    (λ c κs. omega arith)
+    (λ c. omega arith) (λ c. omega arith) loop-again (λ c κs. omega arith)
     (λ c. omega (arith, c .place2 .ensures))
     (λ c. omega (arith, c .place2 .ensures))
     (λ c. omega (arith, c .place2 .ensures))

@@ -37,17 +37,11 @@ returns-2 c =
 pub number-spec : {M : Type 1} → statement M
 number-spec =
     tie.close
-    (tie.spec
-    Inv-loop
-    μ-loop
+    (tie.spec Inv-loop μ-loop
     (λ c. (omega arith, refl))
-    (λ c. omega arith)
-    (λ c κs. search needs)
+    (λ c. omega arith) (λ c κs. search needs)
     (λ c. omega (arith, c .digit .ensures))
     returns
     (λ c. omega (arith, c .before .digit .ensures))
     (λ c. omega (arith, c .before .digit .ensures))
-    (λ c. omega arith)
-    (λ c. omega arith)
-    loop-again
-    returns-2)
+    (λ c. omega arith) (λ c. omega arith) loop-again returns-2)

@@ -1,6 +1,5 @@
 -- `give` meets its contract: an empty element, a refusal passed up, or what the number gives. Assumes nothing.
-use mathlib.Core.Path.{refl, sym, _∙_}
-use mathlib.Core.List.{[]}
+use mathlib.Core.Path.{sym, _∙_}
 use borrow.Author.Needs.{needs}
 use native.Mathlib.Omega.{arith}
 use Rattle.paper.specs.Sizes.{entry-most}
@@ -9,6 +8,7 @@ use Rattle.paper.specs.Masks.{number-masked, mask-gives}
 use Rattle.codes.specs.Meaning.{mask-of}
 use Rattle.numbers.specs.Forms.{whole}
 use Rattle.numbers.proofs.FormLaws.{a-number, passed-up, convertible-size, empty-stays, converts}
+use Rattle.lent.proofs.Laying.{laid-none}
 use Rattle.masks.proofs.LayoutLaws.{same-answer, refuses, gives}
 use Rattle.masks.proofs.MaskLaws.{mask-limited}
 use Rattle.masks.proofs.give.Statement.{statement}
@@ -21,7 +21,7 @@ returns c =
     let a = start .args in
     let k = mask-of (a .mask) in
     same-answer (a .out .now) (sym (mask-limited k (a .e .now) (start .pre .1)))
-    (gives (mask-gives k (a .e .now)) [] (a .out .now) (a .out .now) 0 (empty-stays (number-masked k) (a .e .now) (c .if1 .taken)) refl refl)
+    (gives (mask-gives k (a .e .now)) (empty-stays (number-masked k) (a .e .now) (c .if1 .taken)) (laid-none (a .out .now) 0))
 
 returns-2 : tie.Need-returns-2
 unfolding mask-gives
@@ -60,13 +60,5 @@ returns-3 c =
 pub give-spec : {M : Type 1} → statement M
 give-spec =
     tie.close
-    (tie.spec
-    returns
-    (λ c κs. search needs)
-    (λ c. search needs)
-    (λ c. search needs)
-    (λ c κs. search needs)
-    returns-2
-    number-masked-requires
-    (λ c. search needs)
-    returns-3)
+    (tie.spec returns (λ c κs. search needs) (λ c. search needs) (λ c. search needs) (λ c κs. search needs) returns-2 number-masked-requires
+    (λ c. search needs) returns-3)

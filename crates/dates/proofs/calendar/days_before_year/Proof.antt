@@ -5,10 +5,6 @@ use borrow.Author.Needs.{needs}
 use Rattle.dates.proofs.calendar.days_before_year.Statement.{statement}
 use Rattle.dates.proofs.calendar.days_before_year.Tie as tie
 
-returns : tie.Need-returns
-unfolding days-before-year
-returns c = rw sub-one
-
 pub days-before-year-spec : {M : Type 1} → statement M
-days-before-year-spec =
-    tie.close (tie.spec (λ c. search needs) (λ c. search needs) (λ c. search needs) (λ c. search needs) (λ c. search needs) returns)
+unfolding days-before-year
+days-before-year-spec = tie.close (tie.spec (λ c. search needs) (λ c. search needs) (λ c. search needs) (λ c. search needs) (λ c. search needs) (λ c. rw sub-one))

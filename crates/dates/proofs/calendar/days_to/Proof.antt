@@ -1,5 +1,5 @@
 -- `calendar::days_to` sums the days of the definition. Assumes nothing.
-use Prim.Native.Nat.{_+_, _-_}
+use Prim.Native.Nat.{_+_, _-_, _≤_}
 use mathlib.Core.Path.{_≡_}
 use native.Mathlib.Omega.{arith}
 use Rattle.paper.specs.Dates.{days-to}
@@ -21,39 +21,18 @@ summed c =
     let month = c .days-before-month in
     days-sum (paper-date (c .before .before .before .args .d)) (year .result) (month .result) (year .ensures) (month .ensures)
 
-days-before-year-requires : tie.Need-days-before-year-requires
-days-before-year-requires c κs = omega (arith, parts c)
-
-sub-days-before-month : tie.Need-sub-days-before-month
-sub-days-before-month c = omega (arith, parts (c .before .before))
-
-days-before-month-requires : tie.Need-days-before-month-requires
-days-before-month-requires c κs = omega (arith, parts (c .before .before))
-
-add-result : tie.Need-add-result
-add-result c =
-    let start = c .before .before .before in
-    omega (arith, summed c, days-to-most (paper-date (start .args .d)) (start .pre .0) (start .pre .1))
-
-sub-result : tie.Need-sub-result
-sub-result c = omega (arith, parts (c .before .before .before .before))
-
-add-result-2 : tie.Need-add-result-2
-add-result-2 c =
-    let start = c .before .before .before .before in
-    omega (arith, summed (c .before), days-to-most (paper-date (start .args .d)) (start .pre .0) (start .pre .1))
-
-returns : tie.Need-returns
-returns c = summed (c .before)
+-- and no sum before it is larger
+most : (c : tie.After-days-before-month) → days-to (paper-date (c .before .before .before .args .d)) ≤ 3_652_058
+most c = let start = c .before .before .before in days-to-most (paper-date (start .args .d)) (start .pre .0) (start .pre .1)
 
 pub days-to-spec : {M : Type 1} → statement M
 days-to-spec =
     tie.close
     (tie.spec
-    days-before-year-requires
-    sub-days-before-month
-    days-before-month-requires
-    add-result
-    sub-result
-    add-result-2
-    returns)
+    (λ c κs. omega (arith, parts c))
+    (λ c. omega (arith, parts (c .before .before)))
+    (λ c κs. omega (arith, parts (c .before .before)))
+    (λ c. omega (arith, summed c, most c))
+    (λ c. omega (arith, parts (c .before .before .before .before)))
+    (λ c. omega (arith, summed (c .before), most (c .before)))
+    (λ c. summed (c .before)))

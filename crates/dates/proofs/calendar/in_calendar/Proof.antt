@@ -1,22 +1,21 @@
 -- `calendar::in_calendar` decides as the definition does. Assumes nothing.
+use mathlib.Core.Bool.{and-true, and-false}
+use native.Mathlib.Numerals.{sub-one}
 use native.Mathlib.Omega.{arith}
 use borrow.Author.Needs.{needs}
-use Rattle.dates.specs.Dated.{paper-date}
-use Rattle.dates.proofs.CalendarLaws.{month-below, month-above, month-within}
+use borrow.Author.Tests.{le-leb, lt-leb}
+use Rattle.paper.specs.TypedDates.{in-calendar}
 use Rattle.dates.proofs.calendar.in_calendar.Statement.{statement}
 use Rattle.dates.proofs.calendar.in_calendar.Tie as tie
 
-returns : tie.Need-returns
-returns c = month-below (paper-date (c .before .before .args .d)) (c .if1 .taken)
-
-returns-2 : tie.Need-returns-2
-returns-2 c = month-above (paper-date (c .before .before .before .before .args .d)) (c .if2 .taken)
-
 returns-3 : tie.Need-returns-3
+unfolding in-calendar
 returns-3 c =
-    let start = c .before .before .before .before .before .before .before .before .before in
-    let most = c .before .month-length in
-    month-within (paper-date (start .args .d)) (most .result) (omega arith) (omega arith) (most .ensures)
+    let d = c .before .before .before .before .before .before .before .before .before .args .d in
+    simp (c .before .month-length .ensures, sub-one, le-leb 1 (d .month) (omega arith), le-leb (d .month) 12 (omega arith), and-true)
 
 pub in-calendar-spec : {M : Type 1} → statement M
-in-calendar-spec = tie.close (tie.spec returns returns-2 (λ c κs. search needs) returns-3)
+unfolding in-calendar
+in-calendar-spec =
+    tie.close
+    (tie.spec (λ c. simp (lt-leb 1 _ (c .if1 .taken), and-false)) (λ c. simp (lt-leb _ 12 (c .if2 .taken), and-false)) (λ c κs. search needs) returns-3)

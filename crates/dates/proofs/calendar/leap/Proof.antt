@@ -4,9 +4,6 @@ use Rattle.paper.specs.Dates.{leap}
 use Rattle.dates.proofs.calendar.leap.Statement.{statement}
 use Rattle.dates.proofs.calendar.leap.Tie as tie
 
-returns : tie.Need-returns
-unfolding leap
-returns c = refl
-
 pub leap-spec : {M : Type 1} → statement M
-leap-spec = tie.close (tie.spec returns)
+unfolding leap
+leap-spec = tie.close (tie.spec (λ c. refl))

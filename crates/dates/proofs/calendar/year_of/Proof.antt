@@ -4,20 +4,9 @@ use borrow.Author.Needs.{needs}
 use Rattle.dates.proofs.calendar.year_of.Statement.{statement}
 use Rattle.dates.proofs.calendar.year_of.Tie as tie
 
-returns : tie.Need-returns
-returns c = year-next (c .before .before .args .n) (rw (c .before .days-before-year .ensures) at (c .if1 .taken))
-
-returns-2 : tie.Need-returns-2
-returns-2 c = year-same (c .before .before .args .n) (rw (c .before .days-before-year .ensures) at (c .if1 .left))
-
 pub year-of-spec : {M : Type 1} → statement M
 year-of-spec =
     tie.close
-    (tie.spec
-    (λ c. search needs)
-    (λ c. search needs)
-    (λ c. search needs)
-    (λ c κs. search needs)
-    (λ c. search needs)
-    returns
-    returns-2)
+    (tie.spec (λ c. search needs) (λ c. search needs) (λ c. search needs) (λ c κs. search needs) (λ c. search needs)
+    (λ c. year-next _ (rw (c .before .days-before-year .ensures) at (c .if1 .taken)))
+    (λ c. year-same _ (rw (c .before .days-before-year .ensures) at (c .if1 .left))))

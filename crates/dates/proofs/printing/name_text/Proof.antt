@@ -8,19 +8,11 @@ use Rattle.dates.proofs.printing.name_text.Tie as tie
 returns : tie.Need-returns
 unfolding bytes
 returns c =
-    let a = c .before .before .before .before .before .before .before in
-    name-laid (a .args .out .now) (c .before .before .copy-in .last .1 .0) (a .args .month) (a .pre .1) (a .pre .2) (c .before .before .copy-in .ensures)
+    let start = c .before .before .before .before .before .before .before in
+    name-laid _ _ _ (start .pre .1) (start .pre .2) (c .before .before .copy-in .ensures)
 
 pub name-text-spec : {M : Type 1} → statement M
 name-text-spec =
     tie.close
-    (tie.spec
-    (λ c. search needs)
-    (λ c. search needs)
-    (λ c. search needs)
-    (λ c. search needs)
-    (λ c. search needs)
-    (λ c. search needs)
-    (λ c κs. search needs)
-    (λ c. search needs)
-    returns)
+    (tie.spec (λ c. search needs) (λ c. search needs) (λ c. search needs) (λ c. search needs) (λ c. search needs) (λ c. search needs)
+    (λ c κs. search needs) (λ c. search needs) returns)

@@ -16,47 +16,19 @@ Inv-loop a b c k₀ k = (k ≤ 12) × ((rest : Bytes) → month-called (a ∷ b 
 abbrev μ-loop : tie.MeasureT-loop
 μ-loop a b c k₀ k = 12 - k
 
-loop-holds : tie.Need-loop-holds Inv-loop μ-loop
-loop-holds c = (omega arith, λ rest. refl)
-
 returns : tie.Need-returns Inv-loop μ-loop
 unfolding bytes
-returns c =
-    let here = c .before .before in
-    let a = here .before .args in
-    let test = c .before .loop-test .taken in
-    (λ rest. here .loop .inv .1 rest ∙ called-here (a .a) (a .b) (a .c) (here .loop .k) rest test (c .if1 .taken), omega arith)
+returns c = let here = c .before .before .loop in (λ rest. here .inv .1 rest ∙ called-here _ _ _ (here .k) rest (c .before .loop-test .taken) (c .if1 .taken), omega arith)
 
 loop-again : tie.Need-loop-again Inv-loop μ-loop
 unfolding bytes
-loop-again c =
-    let here = c .before .before in
-    let a = here .before .args in
-    let test = c .before .loop-test .taken in
-    (omega arith, λ rest. here .loop .inv .1 rest ∙ called-next (a .a) (a .b) (a .c) (here .loop .k) rest test (c .if1 .left))
+loop-again c = let here = c .before .before .loop in (omega arith, λ rest. here .inv .1 rest ∙ called-next _ _ _ (here .k) rest (c .before .loop-test .taken) (c .if1 .left))
 
 returns-2 : tie.Need-returns-2 Inv-loop μ-loop
-returns-2 c =
-    let here = c .before in
-    let a = here .before .args in
-    (λ rest. here .loop .inv .1 rest ∙ called-end (a .a) (a .b) (a .c) (here .loop .k) rest (omega arith), omega arith)
+returns-2 c = let here = c .before .loop in (λ rest. here .inv .1 rest ∙ called-end _ _ _ (here .k) rest (omega arith), omega arith)
 
 pub month-called-spec : {M : Type 1} → statement M
 month-called-spec =
     tie.close
-    (tie.spec
-    Inv-loop
-    μ-loop
-    loop-holds
-    (λ c. omega arith)
-    (λ c. omega arith)
-    (λ c. omega arith)
-    (λ c. omega arith)
-    (λ c. omega arith)
-    (λ c. omega arith)
-    (λ c. omega arith)
-    returns
-    (λ c. omega arith)
-    (λ c. omega arith)
-    loop-again
-    returns-2)
+    (tie.spec Inv-loop μ-loop (λ c. (omega arith, λ rest. refl)) (λ c. omega arith) (λ c. omega arith) (λ c. omega arith) (λ c. omega arith) (λ c. omega arith)
+    (λ c. omega arith) (λ c. omega arith) returns (λ c. omega arith) (λ c. omega arith) loop-again returns-2)

@@ -3,13 +3,6 @@ use Rattle.dates.specs.Scans.{ordered}
 use Rattle.dates.proofs.typing.ordered.Statement.{statement}
 use Rattle.dates.proofs.typing.ordered.Tie as tie
 
-returns : tie.Need-returns
-unfolding ordered
-returns c = rw (c .if1 .taken)
-
-returns-2 : tie.Need-returns-2
-unfolding ordered
-returns-2 c = rw (c .if1 .left)
-
 pub ordered-spec : {M : Type 1} → statement M
-ordered-spec = tie.close (tie.spec returns returns-2)
+unfolding ordered
+ordered-spec = tie.close (tie.spec (λ c. rw (c .if1 .taken)) (λ c. rw (c .if1 .left)))

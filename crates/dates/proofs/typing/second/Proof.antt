@@ -6,13 +6,11 @@ use Rattle.dates.proofs.TypingLaws.{within-more}
 use Rattle.dates.proofs.typing.second.Statement.{statement}
 use Rattle.dates.proofs.typing.second.Tie as tie
 
-returns : tie.Need-returns
-unfolding second
-returns c = (rw (c .before .if1 .taken) (c .month .ensures .0), within-more _ (c .month .result) (omega arith) (c .month .ensures .1))
-
-returns-2 : tie.Need-returns-2
-unfolding second
-returns-2 c = (rw (c .before .if1 .left) (c .pair .ensures .0), c .pair .ensures .1)
-
 pub second-spec : {M : Type 1} → statement M
-second-spec = tie.close (tie.spec (λ c κs. search needs) returns (λ c κs. search needs) returns-2)
+unfolding second
+second-spec =
+    tie.close
+    (tie.spec (λ c κs. search needs)
+    (λ c. (rw (c .before .if1 .taken) (c .month .ensures .0), within-more _ (c .month .result) (omega arith) (c .month .ensures .1)))
+    (λ c κs. search needs)
+    (λ c. (rw (c .before .if1 .left) (c .pair .ensures .0), c .pair .ensures .1)))

@@ -2,7 +2,6 @@
 use mathlib.Core.Bool.{_&&_}
 use Prim.Native.Nat.{_≤_}
 use lib.Dec.{ltb}
-use lib.ListN.{length}
 use borrow.Author.Needs.{needs}
 use native.Mathlib.Omega.{arith}
 use Rattle.codes.specs.Meaning.{credit-of, mask-of}
@@ -17,20 +16,12 @@ digits-text-requires c κs =
     omega (arith, length-after (credit-of (a .mask .credits)) (whole (a .y)))
 
 -- the suffix and the digits leave room for a sign and a `$`
-room : (c : tie.After-digits-text) → (2 ≤ c .digits-text .result) × (c .digits-text .result ≤ length (c .digits-text .last .0))
+room : (c : tie.After-digits-text) → 2 ≤ c .digits-text .result
 room c =
     let start = c .before .before .before .before .before .before .before in
     let a = start .args in
-    omega (
-      arith,
-      start .pre,
-      length-after (credit-of (a .mask .credits)) (whole (a .y)),
-      c .before .before .before .before .after-digits .ensures .place,
-      length-pieces (a .mask .commas) (a .mask .decimals) (a .y .size) (omega (arith, start .pre)),
-    )
-
-put-when-requires : tie.Need-put-when-requires
-put-when-requires c κs = omega (arith, room (c .before .before .before .before))
+    let suffix = c .before .before .before .before .after-digits .ensures .place in
+    omega (arith, start .pre, length-after (credit-of (a .mask .credits)) (whole (a .y)), suffix, length-pieces (a .mask .commas) (a .mask .decimals) (a .y .size) (omega (arith, start .pre)))
 
 put-when-requires-2 : tie.Need-put-when-requires-2
 put-when-requires-2 c κs =
@@ -38,7 +29,7 @@ put-when-requires-2 c κs =
     let byte = sign .before .before .sign-byte .result in
     let digits = sign .before .before .before .before .before in
     let a = digits .before .before .before .before .before .before .before .args in
-    omega (arith, room digits, length-when (a .y .negative && ltb 0 byte) byte)
+    omega (arith, room digits, digits .digits-text .ensures .place, length-when (a .y .negative && ltb 0 byte) byte)
 
 returns : tie.Need-returns
 unfolding mask-of
@@ -56,11 +47,5 @@ returns c =
 pub masked-text-spec : {M : Type 1} → statement M
 masked-text-spec =
     tie.close
-    (tie.spec
-    (λ c κs. search needs)
-    digits-text-requires
-    (λ c κs. search needs)
-    put-when-requires
-    put-when-requires-2
-    (λ c. search needs)
-    returns)
+    (tie.spec (λ c κs. search needs) digits-text-requires (λ c κs. search needs)
+    (λ c κs. omega (arith, room (c .before .before .before .before))) put-when-requires-2 (λ c. search needs) returns)
