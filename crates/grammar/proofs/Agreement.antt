@@ -14,7 +14,7 @@ use borrow.Author.Tests.{eq-eqb, eqb-true}
 use Rattle.paper.specs.Bytes.{Bytes, if_then_else_, is-digit, digit-value}
 use Rattle.paper.specs.Grammar as paper
 use Rattle.grammar.specs.Places.{Placed, byte-at, after, follow, follow-or, gives, fails, only-if, ahead, choose-or, this, flag, digit, digit-ahead, more-digits, numeral, numeral-ahead, num}
-use Rattle.paper.proofs.Ranges.{ltb-or}
+use Rattle.paper.proofs.Truths.{ltb-or}
 use Rattle.grammar.proofs.Bytes.{ahead-of, byte-past, after-inside}
 
 -- what was read, f of it in the paper; `low` is where the reader must have come to, at least

@@ -25,11 +25,11 @@ use Rattle.codes.specs.declared.Conversion.{Conversion}
 use Rattle.codes.specs.declared.Repeat.{Repeat}
 use Rattle.codes.specs.declared.Operand.{Operand}
 use Rattle.codes.specs.declared.Elm.{Elm}
-use Rattle.grammar.specs.Places.{Placed, follow, gives, fails, choose-or, num}
+use Rattle.grammar.specs.Places.{Placed, follow, gives, fails, choose-or}
 use Rattle.grammar.specs.Reading as place
 use Rattle.grammar.proofs.Agreement.{Agree, neither, both, Agrees, no-more, option, gives-agrees, fails-agrees, chooses, aheads, digit-aheads, numeral-aheads, follow-agrees, choose-agrees, numeral-ahead-agrees, num-agrees, only-if-agrees, this-agrees, flag-agrees, moved}
 
-plained-agrees : {s : Bytes} {low : ℕ} {x : Option (Plain × ℕ)} {y : Option (codes.Plain × Bytes)} → Agree plain-of s low x y → Agree conversion-of s low (place.plained x) (paper.follow y (λ p. paper.gives (codes.plain p)))
+plained-agrees : {s : Bytes} {low : ℕ} {x : Option (Plain × ℕ)} {y : Option (codes.Plain × Bytes)} → Agree plain-of s low x y → Agree (conversion-of s) s low (place.plained x) (paper.follow y (λ p. paper.gives (codes.plain p)))
 unfolding conversion-of
 plained-agrees neither = neither
 plained-agrees (both a n l u) = both (Conversion.Plain a) n l u
@@ -120,7 +120,7 @@ module _ {s : Bytes} {low : ℕ} where
   unfolding place.fill-part paper.fill-part fill-of
   fill-part-agrees = chooses tt (option fill-width-agrees no-more) (gives-agrees Fill.Absent)
 
-  mask-code-agrees : (left : Bool) → Agrees conversion-of s low (place.mask-code left) (paper.mask-code left)
+  mask-code-agrees : (left : Bool) → Agrees (conversion-of s) s low (place.mask-code left) (paper.mask-code left)
   unfolding place.mask-code paper.mask-code conversion-of mask-of
   mask-code-agrees left =
       follow-agrees _ _ scales-agrees
@@ -131,18 +131,18 @@ module _ {s : Bytes} {low : ℕ} where
       (λ dollar. follow-agrees _ _ fill-part-agrees (λ fill. gives-agrees _))))))
 
   -- `D{n}{s}`
-  date-after-agrees : (n : ℕ) → Agrees conversion-of s low (place.date-after n) (paper.date-after n)
+  date-after-agrees : (n : ℕ) → Agrees (conversion-of s) s low (place.date-after n) (paper.date-after n)
   unfolding place.date-after paper.date-after paper.is-separator conversion-of separator-of
   date-after-agrees n = aheads paper.is-separator refl (λ b. gives-agrees (Conversion.Date n (Separator.Byte b))) (gives-agrees (Conversion.Date n Separator.Absent))
 
-  date-code-agrees : Agrees conversion-of s low place.date-code paper.date-code
+  date-code-agrees : Agrees (conversion-of s) s low place.date-code paper.date-code
   unfolding place.date-code paper.date-code
   date-code-agrees = aheads (within 48 52) refl (λ b. date-after-agrees (digit-value b)) (date-after-agrees 4)
 
-  as-plain-agrees : {r : Placed Plain} {r′ : paper.Reader codes.Plain} → Agrees plain-of s low r r′ → Agrees conversion-of s low (place.as-plain r) (paper.as-plain r′)
+  as-plain-agrees : {r : Placed Plain} {r′ : paper.Reader codes.Plain} → Agrees plain-of s low r r′ → Agrees (conversion-of s) s low (place.as-plain r) (paper.as-plain r′)
   as-plain-agrees e = record { at = λ n l u. plained-agrees (e .at n l u) }
 
-  masking-code-agrees : Agrees conversion-of s low place.masking-code paper.masking-code
+  masking-code-agrees : Agrees (conversion-of s) s low place.masking-code paper.masking-code
   unfolding place.masking-code paper.masking-code paper.choose conversion-of plain-of
   masking-code-agrees =
       chooses tt
@@ -154,7 +154,7 @@ module _ {s : Bytes} {low : ℕ} where
       fails-agrees
 
   -- a code other than F eats a byte at least
-  conversion-at-agrees : (at : ℕ) → low ≤ suc at → at ≤ length s → Agree conversion-of s low (place.conversion s at) (paper.conversion (drop at s))
+  conversion-at-agrees : (at : ℕ) → low ≤ suc at → at ≤ length s → Agree (conversion-of s) s low (place.conversion s at) (paper.conversion (drop at s))
   unfolding place.conversion paper.conversion paper.choose
   conversion-at-agrees at g h =
       choose-agrees fails paper.fails at tt g h
@@ -165,11 +165,11 @@ module _ {s : Bytes} {low : ℕ} where
       (option date-code-agrees no-more)))))
       neither
 
-  conversion-agrees : Agrees conversion-of s low place.conversion paper.conversion
+  conversion-agrees : Agrees (conversion-of s) s low place.conversion paper.conversion
   conversion-agrees = record { at = λ n l u. conversion-at-agrees n (omega arith) u }
 
 -- The code other than F at a place is the paper's there, and each stops where the other does.
-pub conversion-reads : (s : Bytes) (at : ℕ) → at ≤ length s → Agree conversion-of s (suc at) (place.conversion s at) (paper.conversion (drop at s))
+pub conversion-reads : (s : Bytes) (at : ℕ) → at ≤ length s → Agree (conversion-of s) s (suc at) (place.conversion s at) (paper.conversion (drop at s))
 conversion-reads s at h = conversion-at-agrees at (omega arith) h
 
 -- The bytes before a quote: where the quote is found, what the paper's reader takes and leaves.

@@ -8,7 +8,7 @@ use Rattle.codes.specs.declared.Conversion.{Conversion}
 use Rattle.codes.specs.declared.Elm.{Elm}
 use Rattle.grammar.specs.Reading.{plained}
 use Rattle.grammar.specs.Answers.{num-read, fill-read, conversion-read, elm-read, num-refusal, fill-refusal, conversion-refusal, elm-refusal}
-use Rattle.grammar.specs.Checking.{head-read, head-refusal}
+use Rattle.grammar.specs.Heads.{head-read, head-refusal}
 use Rattle.grammar.specs.declared.ReadNum.{ReadNum}
 use Rattle.grammar.specs.declared.ReadFill.{ReadFill}
 use Rattle.grammar.specs.declared.ReadConversion.{ReadConversion}
@@ -56,6 +56,10 @@ module _ {A R : Type 0} (a : Answer A R) where
   refused-read {r} {n} {k} {o} e f g =
       let unread : o ≡ none = read-is f g ∙ a .inside-refused n in
       (unread, e ∙ ap (a .number) (f ∙ ap (a .read) unread ∙ a .shown none) ∙ a .number-refused 6)
+
+-- what one reader refused, another refuses by its number
+pub passed : {A R B S : Type 0} (a : Answer A R) (b : Answer B S) {r : R} {n k : ℕ} {o : Option A} {x : Option B} → k ≡ a .number r → r ≡ a .read o → r ≡ a .refused n → (o ≡ none → x ≡ none) → b .refused k ≡ b .read x
+passed a b e f g h = let w = refused-read a e f g in rw (w .1) (read-none b (h (w .0)))
 
 abbrev pub num-in : ReadNum → Option (ℕ × ℕ)
 num-in (ReadNum.Refused n) = none

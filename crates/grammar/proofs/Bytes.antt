@@ -1,14 +1,16 @@
 -- The byte at a place and the place after it.
 use Prim.Native.Nat.{ℕ, zero, suc, _<_, _≤_, _+_}
 use mathlib.Core.Path.{_≡_, refl, sym, ap, _∙_}
+use mathlib.Core.Bool.{Bool, true, false}
 use mathlib.Core.List.{[], _∷_}
-use lib.ListN.{length, getD, drop, List·getD-eq-default}
+use lib.ListN.{length, getD, drop, length-drop, List·getD-eq-default}
+use lib.Dec.{eqb}
 use lib.Seq.{drop-cons}
 use native.Mathlib.Numerals.{add-one}
 use native.Mathlib.Omega.{arith}
-use borrow.Author.Tests.{lt-ltb, le-ltb}
+use borrow.Author.Tests.{lt-ltb, le-ltb, eq-eqb, ne-eqb, eqb-true, eqb-false}
 use Rattle.paper.specs.Bytes.{Bytes}
-use Rattle.grammar.specs.Places.{byte-at, after}
+use Rattle.grammar.specs.Places.{byte-at, after, Peeked}
 
 getD-inside : (s : Bytes) (at d e : ℕ) → at < length s → getD s at d ≡ getD s at e
 getD-inside [] at d e h = omega arith
@@ -37,3 +39,17 @@ byte-past s at h = sym (List·getD-eq-default s 255 h)
 pub after-past : (s : Bytes) (at : ℕ) → length s ≤ at → at ≡ after s at
 unfolding after
 after-past s at h = simp (le-ltb at (length s) h)
+
+pub peeked-inside : (s : Bytes) (at : ℕ) → at < length s → Peeked s at (getD s at 0) (at + 1)
+peeked-inside s at h = record { stands = byte-inside s at 0 h; leads = after-inside s at h }
+
+pub peeked-past : (s : Bytes) (at : ℕ) → length s ≤ at → Peeked s at 255 at
+peeked-past s at h = record { stands = byte-past s at h; leads = after-past s at h }
+
+-- all of the bytes: none are left, or the place is their end
+pub left-none : (s : Bytes) (n : ℕ) → n ≤ length s → eqb (length (drop n s)) 0 ≡ eqb n (length s)
+left-none s n h = go (eqb n (length s)) refl
+  where
+    go : (t : Bool) → eqb n (length s) ≡ t → eqb (length (drop n s)) 0 ≡ eqb n (length s)
+    go true e = let f = eqb-true n (length s) e in eq-eqb (length (drop n s)) 0 (omega (arith, length-drop n s)) ∙ sym e
+    go false e = let f = eqb-false n (length s) e in ne-eqb (length (drop n s)) 0 (λ z. f (omega (arith, length-drop n s))) ∙ sym e

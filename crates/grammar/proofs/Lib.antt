@@ -5,14 +5,8 @@ pub mod Separators
 pub mod Lines
 pub mod Agreement
 pub mod AgreementLines
-pub mod Stack
-pub mod Scans
-pub mod Heads
+pub mod HeadReads
 pub mod Parted
-pub mod Judging
-pub mod Strings
-pub mod Counts
-pub mod Walking
-pub mod Typed
+pub mod Cuts
 pub mod AddressForm
 pub mod Settled

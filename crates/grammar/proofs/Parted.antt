@@ -13,9 +13,9 @@ use Rattle.paper.specs.Grammar as paper
 use Rattle.paper.specs.Codes as codes
 use Rattle.codes.specs.Meaning.{elm-of}
 use Rattle.codes.specs.declared.Elm.{Elm}
-use Rattle.grammar.specs.Places.{Peeked, after}
+use Rattle.grammar.specs.Places.{Peeked}
 use Rattle.grammar.specs.Reading as place
-use Rattle.grammar.specs.Checking.{elms-from}
+use Rattle.grammar.specs.Heads.{elms-from}
 use Rattle.grammar.proofs.Bytes.{ahead-of}
 use Rattle.grammar.proofs.Taken.{some-one}
 use Rattle.grammar.proofs.Agreement.{Agree, neither, both}

@@ -5,10 +5,8 @@ use Rattle.grammar.proofs.ReadElm.refusal.Reads as elm-refusal
 use Rattle.grammar.proofs.ReadHead.refusal.Reads as head-refusal
 use Rattle.grammar.proofs.ReadAddress.refusal.Reads as address-refusal
 use Rattle.grammar.proofs.elms.elm.Reads as elm
-use Rattle.grammar.proofs.checking.head.Reads as head
-use Rattle.grammar.proofs.checking.code_end.Reads as code-end
-use Rattle.grammar.proofs.check.Reads as check
-use Rattle.grammar.proofs.typed_date.Reads as typed-date
+use Rattle.grammar.proofs.heads.head.Reads as head
+use Rattle.grammar.proofs.heads.code_end.Reads as code-end
 use Rattle.grammar.proofs.addresses.address.Reads as address
 
 pub elm-refusal-settled : (κs : Lfts 0) → (a : _) (r r′ : _) (e e′ : _) → elm-refusal.Post κs a r e → elm-refusal.Post κs a r′ e′ → r ≡ r′
@@ -28,12 +26,6 @@ head-settled κs a r r′ e e′ p q = p ∙ sym q
 
 pub code-end-settled : (κs : Lfts 1) → (a : _) (r r′ : _) (e e′ : _) → code-end.Post κs a r e → code-end.Post κs a r′ e′ → r ≡ r′
 code-end-settled κs a r r′ e e′ p q = p ∙ sym q
-
-pub check-settled : (κs : Lfts 1) → (a : _) (r r′ : _) (e e′ : _) → check.Post κs a r e → check.Post κs a r′ e′ → r ≡ r′
-check-settled κs a r r′ e e′ p q = p .0 ∙ sym (q .0)
-
-pub typed-date-settled : (κs : Lfts 2) → (a : _) (r r′ : _) (e e′ : _) → typed-date.Post κs a r e → typed-date.Post κs a r′ e′ → r ≡ r′
-typed-date-settled κs a r r′ e e′ p q = p ∙ sym q
 
 pub address-settled : (κs : Lfts 1) → (a : _) (r r′ : _) (e e′ : _) → address.Post κs a r e → address.Post κs a r′ e′ → r ≡ r′
 address-settled κs a r r′ e e′ p q = p ∙ sym q

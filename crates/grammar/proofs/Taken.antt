@@ -4,15 +4,16 @@ use mathlib.Core.Path.{_≡_, refl, sym, ap, _∙_}
 use mathlib.Core.Bool.{Bool, true, false, _||_}
 use mathlib.Core.List.{List, [], _∷_}
 use mathlib.Core.Option.{Option, none, some}
-use lib.Dec.{T, eqb}
+use lib.Dec.{T, eqb, ltb}
 use mathlib.Core.Logic.{⊎-elim}
 use native.Mathlib.Nat.{pow-suc, mul-le-mul-right, le-mul-of-pos-right}
 use native.Mathlib.Numerals.{sub-one}
 use native.Mathlib.Omega.{arith}
-use borrow.Author.Tests.{eq-eqb, ne-eqb}
-use Rattle.paper.specs.Bytes.{Bytes, if_then_else_, is-digit, digit-value}
-use Rattle.grammar.specs.Places.{Placed, Peeked, byte-at, after, choose-or, this, flag, digit, more-digits, numeral}
-use Rattle.paper.proofs.Ranges.{ltb-or, within-yes, within-below, within-above}
+use borrow.Author.Tests.{lt-ltb, eq-eqb, ne-eqb}
+use Rattle.paper.specs.Bytes.{Bytes, if_then_else_, within, is-digit, digit-value}
+use Rattle.grammar.specs.Places.{Placed, Peeked, byte-at, after, choose-or, this, digit, more-digits}
+use Rattle.paper.proofs.Truths.{ltb-or}
+use Rattle.paper.proofs.Ranges.{within-yes, within-below, within-above}
 
 -- the reader that a byte names, and whether it names one
 abbrev pub picked : {A : Type 0} → List (ℕ × Placed A) → ℕ → Placed A
@@ -64,15 +65,6 @@ pub this-no : {s : Bytes} {at b n c : ℕ} → Peeked s at b n → (b ≡ c → 
 unfolding this choose-or
 this-no {s} {at} {b} {n} {c} p e = rw (← p .stands, ne-eqb c b (λ z. e (sym z)))
 
--- a byte that may stand there
-pub flag-on : {s : Bytes} {at b n c : ℕ} → Peeked s at b n → b ≡ c → flag c s at ≡ some (true, n)
-unfolding flag choose-or
-flag-on {s} {at} {b} {n} {c} p e = rw (← p .stands, ← p .leads, eq-eqb c b (sym e))
-
-pub flag-off : {s : Bytes} {at b n c : ℕ} → Peeked s at b n → (b ≡ c → ⊥) → flag c s at ≡ some (false, at)
-unfolding flag choose-or
-flag-off {s} {at} {b} {n} {c} p e = rw (← p .stands, ne-eqb c b (λ z. e (sym z)))
-
 -- a digit
 pub digit-yes : {s : Bytes} {at b n : ℕ} → Peeked s at b n → 48 ≤ b → b < 58 → digit s at ≡ some (b - 48, n)
 unfolding digit is-digit digit-value
@@ -85,6 +77,13 @@ digit-below {s} {at} {b} p h = rw (← p .stands, within-below 48 57 b h)
 pub digit-above : {s : Bytes} {at b n : ℕ} → Peeked s at b n → 58 ≤ b → digit s at ≡ none
 unfolding digit is-digit digit-value
 digit-above {s} {at} {b} p h = rw (← p .stands, within-above 48 57 b (omega arith))
+
+-- numbers that must not be 0, and 1 to 99
+pub positive : (n : ℕ) → (n ≡ 0 → ⊥) → ltb 0 n ≡ true
+positive n h = lt-ltb 0 n (omega arith)
+
+pub in-field : (n : ℕ) → (n ≡ 0 → ⊥) → n ≤ 99 → within 1 99 n ≡ true
+in-field n h l = within-yes 1 99 n (omega arith) (omega arith)
 
 pub none-some : {A : Type 0} {o : Option A} {a : A} → o ≡ none → o ≡ some a → ⊥
 none-some e f = let z : _≡_ {A = ℕ} 0 1 = cc in omega arith
@@ -100,15 +99,6 @@ digit-small s at d n e =
   where
     here : Peeked s at (byte-at s at) (after s at)
     here = record { stands = refl; leads = refl }
-
--- a numeral: a digit, and up to j more
-pub numeral-bad : (s : Bytes) (at j : ℕ) → digit s at ≡ none → numeral j s at ≡ none
-unfolding numeral
-numeral-bad s at j e = rw e
-
-pub numeral-more : (s : Bytes) (at j d n : ℕ) → digit s at ≡ some (d, n) → numeral j s at ≡ more-digits j d s n
-unfolding numeral
-numeral-more s at j d n e = rw e
 
 -- the digits of a number: one more, no more, and none left to read
 pub digits-more : (s : Bytes) (at left v d n : ℕ) → 0 < left → digit s at ≡ some (d, n) → more-digits left v s at ≡ more-digits (left - 1) (v * 10 + d) s n

@@ -2,4 +2,4 @@ pub mod Places
 pub mod Reading
 pub mod Addresses
 pub mod Answers
-pub mod Checking
+pub mod Heads

@@ -116,15 +116,9 @@ fn multiply_elm(code: &[u8], at: usize) -> ReadElm
     ensures { λ r. ⌜ r ≡ elm-read (multiply-elm (now (code .entry)) at) ⌝ }
 {
     let ReadNum::Num { value, next } = digit(code, at) else {
-        return ReadElm::Elm {
-            elm: Elm::Binary(Operator::Arithmetic(Arithmetic::Multiply(0))),
-            next: at,
-        };
+        return reckoning(Arithmetic::Multiply(0), at);
     };
-    ReadElm::Elm {
-        elm: Elm::Binary(Operator::Arithmetic(Arithmetic::Multiply(value))),
-        next,
-    }
+    reckoning(Arithmetic::Multiply(value), next)
 }
 
 // `[]`, or `[` alone
@@ -169,6 +163,12 @@ fn two_entries(operator: Operator, next: usize) -> ReadElm
     }
 }
 
+fn reckoning(arithmetic: Arithmetic, next: usize) -> ReadElm
+    ensures { λ r. ⌜ r ≡ ReadElm.Elm (Elm.Binary (Operator.Arithmetic arithmetic)) next ⌝ }
+{
+    two_entries(Operator::Arithmetic(arithmetic), next)
+}
+
 fn relating(relation: Relation, next: usize) -> ReadElm
     ensures { λ r. ⌜ r ≡ ReadElm.Elm (Elm.Binary (Operator.Relate relation)) next ⌝ }
 {
@@ -183,10 +183,10 @@ fn single_elm(code: &[u8], at: usize) -> ReadElm
     let byte = ahead.byte;
     let next = ahead.next;
     match byte {
-        b'/' => two_entries(Operator::Arithmetic(Arithmetic::Divide), next),
-        b'R' => two_entries(Operator::Arithmetic(Arithmetic::Rest), next),
-        b'+' => two_entries(Operator::Arithmetic(Arithmetic::Add), next),
-        b'-' => two_entries(Operator::Arithmetic(Arithmetic::Subtract), next),
+        b'/' => reckoning(Arithmetic::Divide, next),
+        b'R' => reckoning(Arithmetic::Rest, next),
+        b'+' => reckoning(Arithmetic::Add, next),
+        b'-' => reckoning(Arithmetic::Subtract, next),
         b':' => two_entries(Operator::Concatenate, next),
         b'_' => ReadElm::Elm {
             elm: Elm::Exchange,

@@ -1,10 +1,10 @@
-// Document 01, "The code grammar": reading codes, and checking a code string.
+// Document 01, "The code grammar": reading codes, and typed addresses.
 // Readers look one byte ahead and commit; each answers what it read with the place after it, or that it is not in the grammar.
 // A literal is a place in the code, not a copy. Every contract is an equality with a definition that proofs/ tie to crates/paper.
 pub mod addresses;
-pub mod checking;
 mod conversions;
 pub mod elms;
+pub mod heads;
 mod masking;
 mod places;
 mod plains;
@@ -14,18 +14,9 @@ use codes::Credit;
 use codes::Elm;
 use codes::Fill;
 use codes::Repeat;
-use dates::TypedDay;
-use dates::typing::typed_date as typed_date_by;
-use paper::Limit;
 ghost use mathlib.Core.Path.{_≡_};
-ghost use mathlib.Core.Option.{some};
-ghost use Rattle.paper.specs.Codes.{single};
-ghost use Rattle.paper.specs.Checking.{check, report};
-ghost use Rattle.paper.specs.TypedDates.{typed-by, typed-date};
-ghost use Rattle.codes.specs.Meaning.{conversion-of};
-ghost use Rattle.dates.specs.Dated.{typed-of};
 ghost use Rattle.grammar.specs.Answers.{num-refusal, fill-refusal, conversion-refusal, elm-refusal};
-ghost use Rattle.grammar.specs.Checking.{head-refusal, fault-in, verdict-of, report-in};
+ghost use Rattle.grammar.specs.Heads.{head-refusal};
 ghost use Rattle.grammar.specs.Addresses.{address-refusal};
 
 // The byte at a place, and the place after it.
@@ -175,82 +166,4 @@ impl ReadAddress {
             ReadAddress::Refused(number) => number,
         }
     }
-}
-
-// One code: its attribute loads and other steps, or its fault.
-pub(crate) enum Judged {
-    Lawful { loads: u64, others: u64 },
-    Faulty(u64),
-}
-
-impl Judged {
-    // the number to pass up where this is a fault
-    pub(crate) fn fault(self) -> u64
-        ensures { λ r. ⌜ r ≡ fault-in self ⌝ }
-    {
-        match self {
-            Judged::Lawful {
-                loads: _,
-                others: _,
-            } => 0,
-            Judged::Faulty(number) => number,
-        }
-    }
-}
-
-// A code string: A and B, or the refusal with the number of the first bad code.
-pub enum Verdict {
-    Accepted { loads: u64, others: u64 },
-    Refused { number: u64, code: u64 },
-}
-
-// "Checking: 5 (with code number 0), then the first bad code .. accepted, it gives A and B"
-pub fn check(code: &[u8]) -> Verdict
-    ensures { λ r. ⌜ r ≡ verdict-of (check (now (code .entry))) ⌝ }
-    ensures { λ r. ⌜ report-in r ≡ report (check (now (code .entry))) ⌝ }
-{
-    if Limit::CODE.most < code.len() {
-        return Verdict::Refused {
-            number: paper::refusal::OVER_LONG_CODE,
-            code: 0,
-        };
-    }
-    if code.len() == 0 {
-        return Verdict::Accepted {
-            loads: 0,
-            others: 0,
-        };
-    }
-    checking::check_codes(code)
-}
-
-// "6 if the string is not exactly one D code"
-fn typed_by(conversion: Conversion, text: &[u8]) -> TypedDay
-    ensures { λ r. ⌜ r ≡ typed-of (typed-by (some (single (conversion-of conversion))) (now (text .entry))) ⌝ }
-{
-    match conversion {
-        Conversion::Plain(_) => TypedDay::Refused(paper::refusal::NOT_IN_GRAMMAR),
-        Conversion::Mask(_) => TypedDay::Refused(paper::refusal::NOT_IN_GRAMMAR),
-        Conversion::Date { digits, separator } => typed_date_by(text, digits, separator),
-    }
-}
-
-// "A typed date: 5, then 6 if the string is not exactly one D code, then 12."
-pub fn typed_date(code: &[u8], text: &[u8]) -> TypedDay
-    ensures { λ r. ⌜ r ≡ typed-of (typed-date (now (code .entry)) (now (text .entry))) ⌝ }
-{
-    if Limit::CODE.most < code.len() {
-        return TypedDay::Refused(paper::refusal::OVER_LONG_CODE);
-    }
-    if lent::marked(code) {
-        return TypedDay::Refused(paper::refusal::NOT_IN_GRAMMAR);
-    }
-    let read = checking::head(code);
-    let ReadHead::Head(head) = read else {
-        return TypedDay::Refused(read.refusal());
-    };
-    let Head::Single(conversion) = head else {
-        return TypedDay::Refused(paper::refusal::NOT_IN_GRAMMAR);
-    };
-    typed_by(conversion, text)
 }

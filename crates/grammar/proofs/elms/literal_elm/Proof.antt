@@ -16,24 +16,6 @@ Inv-loop code from quote at₀ at = (from ≤ at) × (closing quote (drop at cod
 abbrev μ-loop : tie.MeasureT-loop
 μ-loop code from quote at₀ at = length code - at
 
-returns : tie.Need-returns Inv-loop μ-loop
-returns c =
-    let a = c .before .before .before .before .args in
-    let l = c .before .before .before .loop in
-    read-some elms (literal-closed _ _ _ _ (sym (l .inv .1) ∙ closing-here (now (a .code)) (l .at) (a .quote) (c .before .before .loop-test .taken) (c .if1 .taken)))
-
-loop-again : tie.Need-loop-again Inv-loop μ-loop
-loop-again c =
-    let a = c .before .before .before .before .args in
-    let l = c .before .before .before .loop in
-    (omega arith, sym (closing-on (now (a .code)) (l .at) (a .quote) (c .before .before .loop-test .taken) (c .if1 .left)) ∙ l .inv .1)
-
-returns-2 : tie.Need-returns-2 Inv-loop μ-loop
-returns-2 c =
-    let a = c .before .before .args in
-    let l = c .before .loop in
-    read-none elms (literal-open _ _ _ (sym (l .inv .1) ∙ closing-none (now (a .code)) (l .at) (a .quote) (c .loop-test .left)))
-
 pub literal-elm-spec : {M : Type 1} → statement M
 literal-elm-spec =
     tie.close
@@ -41,11 +23,14 @@ literal-elm-spec =
     Inv-loop
     μ-loop
     (λ c. (omega arith, refl))
-    (λ c. omega arith)
-    (λ c. omega arith)
-    (λ c. omega arith)
-    returns
-    (λ c. omega arith)
-    (λ c. omega arith)
-    loop-again
-    returns-2)
+    (λ c. omega arith) (λ c. omega arith) (λ c. omega arith)
+    (λ c. let a = c .before .before .before .before .args in
+    let l = c .before .before .before .loop in
+    read-some elms (literal-closed _ _ _ _ (sym (l .inv .1) ∙ closing-here (now (a .code)) (l .at) (a .quote) (c .before .before .loop-test .taken) (c .if1 .taken))))
+    (λ c. omega arith) (λ c. omega arith)
+    (λ c. let a = c .before .before .before .before .args in
+    let l = c .before .before .before .loop in
+    (omega arith, sym (closing-on (now (a .code)) (l .at) (a .quote) (c .before .before .loop-test .taken) (c .if1 .left)) ∙ l .inv .1))
+    (λ c. let a = c .before .before .args in
+    let l = c .before .loop in
+    read-none elms (literal-open _ _ _ (sym (l .inv .1) ∙ closing-none (now (a .code)) (l .at) (a .quote) (c .loop-test .left)))))

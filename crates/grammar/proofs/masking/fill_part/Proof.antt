@@ -7,13 +7,11 @@ use Rattle.grammar.proofs.Taken.{chosen, missed}
 use Rattle.grammar.proofs.masking.fill_part.Statement.{statement}
 use Rattle.grammar.proofs.masking.fill_part.Tie as tie
 
-returns : tie.Need-returns
-unfolding fill-part
-returns c = read-by fills (c .fill-width .ensures) (chosen _ _ (c .before .before .peek .ensures) (c .before .match .keys1) tt refl)
-
-returns-2 : tie.Need-returns-2
-unfolding fill-part
-returns-2 c = read-some fills (missed _ _ (c .before .peek .ensures) (c .match .rest))
-
 pub fill-part-spec : {M : Type 1} → statement M
-fill-part-spec = tie.close (tie.spec (λ c κs. search needs) (λ c κs. search needs) returns returns-2)
+unfolding fill-part
+fill-part-spec =
+    tie.close
+    (tie.spec
+    (λ c κs. search needs) (λ c κs. search needs)
+    (λ c. read-by fills (c .fill-width .ensures) (chosen _ _ (c .before .before .peek .ensures) (c .before .match .keys1) tt refl))
+    (λ c. read-some fills (missed _ _ (c .before .peek .ensures) (c .match .rest))))

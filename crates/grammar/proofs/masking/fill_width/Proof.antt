@@ -8,31 +8,13 @@ use Rattle.grammar.proofs.Taken.{chosen, missed}
 use Rattle.grammar.proofs.masking.fill_width.Statement.{statement}
 use Rattle.grammar.proofs.masking.fill_width.Tie as tie
 
-returns : tie.Need-returns
-unfolding fill-byte
-returns c = read-by fills (c .fill-field .ensures) (width-by _ _ _ _ (chosen _ _ (c .before .before .peek .ensures) (c .before .match .keys1) tt refl))
-
-returns-2 : tie.Need-returns-2
-unfolding fill-byte
-returns-2 c = read-by fills (c .fill-field2 .ensures) (width-by _ _ _ _ (chosen _ _ (c .before .before .peek .ensures) (c .before .match .keys2) tt refl))
-
-returns-3 : tie.Need-returns-3
-unfolding fill-byte
-returns-3 c = read-by fills (c .fill-field3 .ensures) (width-by _ _ _ _ (chosen _ _ (c .before .before .peek .ensures) (c .before .match .keys3) tt refl))
-
-returns-4 : tie.Need-returns-4
-unfolding fill-byte
-returns-4 c = read-none fills (width-none _ _ (missed _ _ (c .before .peek .ensures) (c .match .rest)))
-
 pub fill-width-spec : {M : Type 1} → statement M
+unfolding fill-byte
 fill-width-spec =
     tie.close
     (tie.spec
-    (λ c κs. search needs)
-    (λ c κs. search needs)
-    (λ c κs. search needs)
-    (λ c κs. search needs)
-    returns
-    returns-2
-    returns-3
-    returns-4)
+    (λ c κs. search needs) (λ c κs. search needs) (λ c κs. search needs) (λ c κs. search needs)
+    (λ c. read-by fills (c .fill-field .ensures) (width-by _ _ _ _ (chosen _ _ (c .before .before .peek .ensures) (c .before .match .keys1) tt refl)))
+    (λ c. read-by fills (c .fill-field2 .ensures) (width-by _ _ _ _ (chosen _ _ (c .before .before .peek .ensures) (c .before .match .keys2) tt refl)))
+    (λ c. read-by fills (c .fill-field3 .ensures) (width-by _ _ _ _ (chosen _ _ (c .before .before .peek .ensures) (c .before .match .keys3) tt refl)))
+    (λ c. read-none fills (width-none _ _ (missed _ _ (c .before .peek .ensures) (c .match .rest)))))

@@ -5,14 +5,11 @@ use Rattle.grammar.proofs.Taken.{digit-yes, digit-below, digit-above}
 use Rattle.grammar.proofs.places.digit.Statement.{statement}
 use Rattle.grammar.proofs.places.digit.Tie as tie
 
-returns : tie.Need-returns
-returns c = read-some nums (digit-yes (c .before .before .peek .ensures) (c .before .if1 .left) (c .if2 .taken))
-
-returns-2 : tie.Need-returns-2
-returns-2 c = read-none nums (digit-below (c .before .peek .ensures) (c .if1 .taken))
-
-returns-3 : tie.Need-returns-3
-returns-3 c = read-none nums (digit-above (c .before .before .peek .ensures) (c .if2 .left))
-
 pub digit-spec : {M : Type 1} → statement M
-digit-spec = tie.close (tie.spec (λ c κs. search needs) (λ c. search needs) returns returns-2 returns-3)
+digit-spec =
+    tie.close
+    (tie.spec
+    (λ c κs. search needs) (λ c. search needs)
+    (λ c. read-some nums (digit-yes (c .before .before .peek .ensures) (c .before .if1 .left) (c .if2 .taken)))
+    (λ c. read-none nums (digit-below (c .before .peek .ensures) (c .if1 .taken)))
+    (λ c. read-none nums (digit-above (c .before .before .peek .ensures) (c .if2 .left))))

@@ -1,15 +1,16 @@
 -- `places::flag` meets its contract. Assumes nothing.
 use mathlib.Core.Path.{sym}
 use borrow.Author.Needs.{needs}
-use Rattle.grammar.proofs.Taken.{flag-on, flag-off}
+use borrow.Author.Tests.{eq-eqb, ne-eqb}
+use Rattle.grammar.specs.Places.{choose-or, flag}
 use Rattle.grammar.proofs.places.flag.Statement.{statement}
 use Rattle.grammar.proofs.places.flag.Tie as tie
 
-returns : tie.Need-returns
-returns c = sym (flag-on (c .before .before .peek .ensures) (c .if1 .taken))
-
-returns-2 : tie.Need-returns-2
-returns-2 c = sym (flag-off (c .before .before .peek .ensures) (c .if1 .left))
-
 pub flag-spec : {M : Type 1} → statement M
-flag-spec = tie.close (tie.spec (λ c κs. search needs) returns returns-2)
+unfolding flag choose-or
+flag-spec =
+    tie.close
+    (tie.spec
+    (λ c κs. search needs)
+    (λ c. let p = c .before .before .peek .ensures in rw (← p .stands, ← p .leads, eq-eqb _ _ (sym (c .if1 .taken))))
+    (λ c. rw (← c .before .before .peek .ensures .stands, ne-eqb _ _ (λ z. c .if1 .left (sym z)))))

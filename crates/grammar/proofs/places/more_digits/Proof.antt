@@ -16,27 +16,11 @@ Inv-loop code from first most value₀ at₀ left₀ value at left =
 abbrev μ-loop : tie.MeasureT-loop
 μ-loop code from first most value₀ at₀ left₀ value at left = left
 
-returns : tie.Need-returns Inv-loop μ-loop
-returns c =
-    let l = c .before .before .before .before .loop in
-    let e = read-is nums (c .before .before .digit .ensures) (c .enum-told .given .1) in
-    sym (digits-stop _ (l .at) (l .left) (l .value) (c .before .before .before .loop-test .taken) e) ∙ l .inv .1
-
 -- the digit read, and the value before it
 small : (c : tie.After-known-told Inv-loop μ-loop) → (c .before .d .given .0 .0 ≤ 9) × (c .before .before .before .before .before .loop .value < 100_000)
 small c =
     let l = c .before .before .before .before .before .loop in
     (digit-small _ _ _ _ (read-is nums (c .before .before .before .digit .ensures) (c .before .d .given .1)), digits-room (l .value) (l .left) (l .inv .0))
-
-loop-again : tie.Need-loop-again Inv-loop μ-loop
-loop-again c =
-    let l = c .before .before .before .before .before .loop in
-    let t = c .before .before .before .before .loop-test .taken in
-    let e = read-is nums (c .before .before .before .digit .ensures) (c .before .d .given .1) in
-    (digits-step (l .value) (l .left) _ t (small c .0) (l .inv .0), sym (digits-more _ (l .at) (l .left) (l .value) _ _ t e) ∙ l .inv .1)
-
-returns-2 : tie.Need-returns-2 Inv-loop μ-loop
-returns-2 c = let l = c .before .loop in sym (digits-done _ (l .at) (l .left) (l .value) (c .loop-test .left)) ∙ l .inv .1
 
 pub more-digits-spec : {M : Type 1} → statement M
 more-digits-spec =
@@ -45,13 +29,15 @@ more-digits-spec =
     Inv-loop
     μ-loop
     (λ c. (digits-start _ _ (c .before .pre .0) (c .before .pre .1), refl))
-    (λ c κs. search needs)
-    (λ c. search needs)
-    (λ c. search needs)
-    returns
+    (λ c κs. search needs) (λ c. search needs) (λ c. search needs)
+    (λ c. let l = c .before .before .before .before .loop in
+    let e = read-is nums (c .before .before .digit .ensures) (c .enum-told .given .1) in
+    sym (digits-stop _ (l .at) (l .left) (l .value) (c .before .before .before .loop-test .taken) e) ∙ l .inv .1)
     (λ c. omega (arith, small c))
     (λ c. omega (arith, small c))
-    (λ c. search needs)
-    (λ c. omega arith)
-    loop-again
-    returns-2)
+    (λ c. search needs) (λ c. omega arith)
+    (λ c. let l = c .before .before .before .before .before .loop in
+    let t = c .before .before .before .before .loop-test .taken in
+    let e = read-is nums (c .before .before .before .digit .ensures) (c .before .d .given .1) in
+    (digits-step (l .value) (l .left) _ t (small c .0) (l .inv .0), sym (digits-more _ (l .at) (l .left) (l .value) _ _ t e) ∙ l .inv .1))
+    (λ c. let l = c .before .loop in sym (digits-done _ (l .at) (l .left) (l .value) (c .loop-test .left)) ∙ l .inv .1))

@@ -4,9 +4,6 @@ use Rattle.grammar.specs.Places.{num}
 use Rattle.grammar.proofs.places.num.Statement.{statement}
 use Rattle.grammar.proofs.places.num.Tie as tie
 
-returns : tie.Need-returns
-unfolding num
-returns c = c .numeral .ensures
-
 pub num-spec : {M : Type 1} → statement M
-num-spec = tie.close (tie.spec (λ c κs. search needs) returns)
+unfolding num
+num-spec = tie.close (tie.spec (λ c κs. search needs) (λ c. c .numeral .ensures))

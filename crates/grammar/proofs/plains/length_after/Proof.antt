@@ -7,13 +7,11 @@ use Rattle.grammar.proofs.Taken.{chosen, missed}
 use Rattle.grammar.proofs.plains.length_after.Statement.{statement}
 use Rattle.grammar.proofs.plains.length_after.Tie as tie
 
-returns : tie.Need-returns
-unfolding length-after
-returns c = plain-by (c .admit-from .ensures) (chosen _ _ (c .before .before .peek .ensures) (c .before .match .keys1) tt refl)
-
-returns-2 : tie.Need-returns-2
-unfolding length-after
-returns-2 c = plain-some (missed _ _ (c .before .peek .ensures) (c .match .rest))
-
 pub length-after-spec : {M : Type 1} → statement M
-length-after-spec = tie.close (tie.spec (λ c κs. search needs) (λ c κs. search needs) returns returns-2)
+unfolding length-after
+length-after-spec =
+    tie.close
+    (tie.spec
+    (λ c κs. search needs) (λ c κs. search needs)
+    (λ c. plain-by (c .admit-from .ensures) (chosen _ _ (c .before .before .peek .ensures) (c .before .match .keys1) tt refl))
+    (λ c. plain-some (missed _ _ (c .before .peek .ensures) (c .match .rest))))

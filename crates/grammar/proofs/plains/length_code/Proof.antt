@@ -1,23 +1,17 @@
 -- `plains::length_code` meets its contract. Assumes nothing.
 use borrow.Author.Needs.{needs}
-use Rattle.grammar.proofs.Lines.{length-alone, length-num}
-use Rattle.grammar.proofs.Answering.{nums, read-is, plain-some, plain-by}
+use Rattle.grammar.specs.Places.{num}
+use Rattle.grammar.specs.Reading.{length-code}
+use Rattle.grammar.proofs.Answering.{nums, conversions, read-is, read-some, read-by}
 use Rattle.grammar.proofs.plains.length_code.Statement.{statement}
 use Rattle.grammar.proofs.plains.length_code.Tie as tie
 
-returns : tie.Need-returns
-returns c = plain-some (length-alone _ _ (read-is nums (c .before .before .num .ensures) (c .enum-told .given .1)))
-
-returns-2 : tie.Need-returns-2
-returns-2 c = plain-by (c .length-after .ensures) (length-num _ _ _ _ (read-is nums (c .before .before .before .before .num .ensures) (c .before .before .value .given .1)))
-
 pub length-code-spec : {M : Type 1} → statement M
+unfolding length-code num
 length-code-spec =
     tie.close
     (tie.spec
+    (λ c κs. search needs) (λ c. search needs) (λ c. search needs)
+    (λ c. read-some conversions (rw (read-is nums (c .before .before .num .ensures) (c .enum-told .given .1))))
     (λ c κs. search needs)
-    (λ c. search needs)
-    (λ c. search needs)
-    returns
-    (λ c κs. search needs)
-    returns-2)
+    (λ c. read-by conversions (c .length-after .ensures) (rw (read-is nums (c .before .before .before .before .num .ensures) (c .before .before .value .given .1)))))

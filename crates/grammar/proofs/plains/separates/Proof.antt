@@ -1,20 +1,18 @@
 -- `plains::separates` meets its contract: by the arm that the byte took. Assumes nothing.
 use native.Mathlib.Omega.{arith}
-use Rattle.grammar.proofs.Separators.{separates-digit, separates-mark, separates-low, separates-between}
+use Rattle.paper.specs.Bytes.{is-digit}
+use Rattle.paper.specs.Sizes.{is-mark}
+use Rattle.grammar.specs.Reading.{separates}
+use Rattle.paper.proofs.Ranges.{within-yes, within-below, within-above}
 use Rattle.grammar.proofs.plains.separates.Statement.{statement}
 use Rattle.grammar.proofs.plains.separates.Tie as tie
 
-returns : tie.Need-returns
-returns c = separates-digit _ (c .before .if1 .left) (c .if2 .taken)
-
-returns-2 : tie.Need-returns-2
-returns-2 c = separates-mark _ (c .if3 .left) (omega arith)
-
-returns-3 : tie.Need-returns-3
-returns-3 c = separates-low _ (c .if1 .taken)
-
-returns-4 : tie.Need-returns-4
-returns-4 c = separates-between _ (c .before .if2 .left) (c .if3 .taken)
-
 pub separates-spec : {M : Type 1} → statement M
-separates-spec = tie.close (tie.spec returns returns-2 returns-3 returns-4)
+unfolding separates is-digit is-mark
+separates-spec =
+    tie.close
+    (tie.spec
+    (λ c. let b = c .before .before .args .byte in simp (within-yes 48 57 b (omega arith) (omega arith)))
+    (λ c. let b = c .before .before .before .args .byte in simp (within-above 48 57 b (omega arith), within-yes 251 255 b (omega arith) (omega arith)))
+    (λ c. let b = c .before .args .byte in simp (within-below 48 57 b (omega arith), within-below 251 255 b (omega arith)))
+    (λ c. let b = c .before .before .before .args .byte in simp (within-above 48 57 b (omega arith), within-below 251 255 b (omega arith))))
