@@ -1,5 +1,5 @@
 -- The laws of one code's run: a code other than F on the element, and what the judgement of a code says of its head. Assumes nothing.
-use mathlib.Core.Path.{_≡_, refl, ap, _∙_}
+use mathlib.Core.Path.{_≡_, refl, sym, ap, _∙_}
 use mathlib.Core.Bool.{Bool, true, false}
 use mathlib.Core.List.{List, [], _∷_}
 use mathlib.Core.Option.{Option, none, some}
@@ -8,7 +8,7 @@ use native.Mathlib.Nat.{add-zero}
 use native.Mathlib.Omega.{arith}
 use lib.ListN.{length}
 use lib.Dec.{leb, eqb}
-use borrow.Author.Tests.{le-leb, lt-leb}
+use borrow.Author.Tests.{le-leb, lt-leb, leb-true, leb-false}
 use Rattle.paper.specs.Bytes.{Bytes, if_then_else_, any}
 use Rattle.paper.specs.Sizes.{entry-most, is-mark}
 use Rattle.paper.specs.Refusals.{Res, given, refused, _>>=_, _>>_, over-budget}
@@ -17,43 +17,68 @@ use Rattle.paper.specs.Answers.{refusal-in}
 use Rattle.paper.specs.Codes.{Conversion, Elm, Code}
 use Rattle.paper.specs.Grammar.{read}
 use Rattle.paper.specs.Checking.{all-stacked, lawful, in-grammar, judged}
-use Rattle.paper.specs.Steps.{Setting, done, step, stepped, conversion-gives, bytes-in, price, limited, conversion-step, code-run}
+use Rattle.paper.specs.Steps.{Setting, done, stepped, onward, top-entry, conversion-gives, bytes-in, price, limited, conversion-step, code-run}
 use Rattle.paper.specs.Converting.{within-budget}
 use Rattle.codes.specs.declared.Conversion.{Conversion as Converted}
 use Rattle.codes.specs.Meaning.{conversion-of}
 use Rattle.grammar.specs.declared.Head.{Head}
 use Rattle.grammar.specs.Places.{byte-at}
 use Rattle.grammar.specs.Reading as place
-use Rattle.grammar.specs.Checking.{whole, head, elms-from}
-use Rattle.grammar.proofs.Judging.{functioned, read-by, head-reads, marks-read}
-use Rattle.machine.specs.Slots.{element-slot, entry-at}
-use Rattle.machine.specs.Bounds.{Conversion-within}
-use Rattle.machine.specs.Stepping.{handed, taken-one, converted-on}
-use Rattle.machine.specs.Runs.{answered, read-run, Stacks, stacks, converting, judged-run, Judged-well, judged-well}
-use Rattle.machine.proofs.Effects.{Gave, gave-handed}
-use Rattle.machine.proofs.Turns.{stopped}
-use Rattle.machine.proofs.Within.{Reads, conversion-reads, read-has}
+use Rattle.grammar.specs.Heads.{whole, head, elms-from}
+use Rattle.grammar.proofs.HeadReads.{functioned, read-by, head-reads, marks-read}
+use Rattle.stack.specs.Slots.{element-slot, entry-at}
+use Rattle.steps.specs.Bounds.{Conversion-within}
+use Rattle.stack.specs.declared.Charge.{Charge}
+use Rattle.machine.specs.declared.Meter.{Meter}
+use Rattle.stack.specs.Charging.{taken-most, charge-of, charge-refusal, handed, taken-one}
+use Rattle.steps.specs.Stepping.{converted-on}
+use Rattle.paper.proofs.Predicates.{Reads}
+use Rattle.machine.specs.Runs.{metered, Counted, answered, stopped, read-run, Stacks, stacks, converting, judged-run, Judged-well, judged-well}
+use Rattle.stack.proofs.Charges.{Gave, gave-handed}
+use Rattle.machine.proofs.Within.{conversion-reads, read-has}
 
--- One code other than F, under a budget, with so much of it left.
-module _ (budget steps taken : ℕ) (within : steps ≤ budget) where
-  pub converting-over : (bs : Bytes) → budget - steps < 1 + taken + length bs
-      → within-budget budget steps (converting taken (given bs)) ≡ stopped over-budget steps
-  unfolding within-budget converting
-  converting-over bs h =
-      let over : leb (steps + (1 + taken + length bs)) budget ≡ false = lt-leb (steps + (1 + taken + length bs)) budget (omega arith) in
-      rw over
+-- One code other than F, under a budget, by what it is charged.
+module _ (meter : Meter) (taken : ℕ) (counted : Counted meter) where
+  pub converting-charged : {charge : Charge} {cost : ℕ} (bs : Bytes) → charge ≡ charge-of taken (length bs) (meter .budget - meter .steps)
+      → charge ≡ Charge.Cost cost
+      → (meter .steps + cost ≤ meter .budget) × (metered meter (converting taken (given bs)) ≡ answered bs (meter .steps + cost))
+  unfolding within-budget converting charge-of
+  converting-charged {charge} {cost} bs e f = go (leb (1 + taken + length bs) (meter .budget - meter .steps)) refl (sym e ∙ f)
+    where
+      go : (t : Bool) → leb (1 + taken + length bs) (meter .budget - meter .steps) ≡ t
+          → (if t then Charge.Cost (1 + taken + length bs) else Charge.Refused over-budget) ≡ Charge.Cost cost
+          → (meter .steps + cost ≤ meter .budget) × (metered meter (converting taken (given bs)) ≡ answered bs (meter .steps + cost))
+      go true q g =
+          let same : 1 + taken + length bs ≡ cost = cc in
+          let h : 1 + taken + length bs ≤ meter .budget - meter .steps = leb-true _ _ q in
+          let fits : leb (meter .steps + (1 + taken + length bs)) (meter .budget) ≡ true = le-leb (meter .steps + (1 + taken + length bs)) (meter .budget) (omega arith) in
+          (omega arith, rw (fits, same))
+      go false q g = let z : _≡_ {A = ℕ} 0 1 = cc in absurd (omega arith)
 
-  pub converting-within : (bs : Bytes) → 1 + taken + length bs ≤ budget - steps
-      → within-budget budget steps (converting taken (given bs)) ≡ answered bs (steps + (1 + taken + length bs))
-  unfolding within-budget converting
-  converting-within bs h =
-      let fits : leb (steps + (1 + taken + length bs)) budget ≡ true = le-leb (steps + (1 + taken + length bs)) budget (omega arith) in
-      rw fits
+  pub converting-over : {charge : Charge} {n m : ℕ} (bs : Bytes) → charge ≡ charge-of taken (length bs) (meter .budget - meter .steps)
+      → charge ≡ Charge.Refused n → m ≡ charge-refusal charge → metered meter (converting taken (given bs)) ≡ stopped m (meter .steps)
+  unfolding within-budget converting charge-of
+  converting-over {charge} {n} {m} bs e f r = go (leb (1 + taken + length bs) (meter .budget - meter .steps)) refl (sym e ∙ f) (r ∙ ap charge-refusal f)
+    where
+      go : (t : Bool) → leb (1 + taken + length bs) (meter .budget - meter .steps) ≡ t
+          → (if t then Charge.Cost (1 + taken + length bs) else Charge.Refused over-budget) ≡ Charge.Refused n → m ≡ n
+          → metered meter (converting taken (given bs)) ≡ stopped m (meter .steps)
+      go true q g k = let z : _≡_ {A = ℕ} 0 1 = cc in absurd (omega arith)
+      go false q g k =
+          let same : over-budget ≡ n = cc in
+          let h : meter .budget - meter .steps < 1 + taken + length bs = leb-false _ _ q in
+          let over : leb (meter .steps + (1 + taken + length bs)) (meter .budget) ≡ false = lt-leb (meter .steps + (1 + taken + length bs)) (meter .budget) (omega arith) in
+          rw (over, k, same)
 
   pub converting-refused : {answer : Given} {n m : ℕ} (work : Bytes) → m ≡ refusal-in answer → answer ≡ Given.Refused n
-      → within-budget budget steps (converting taken (handed answer work)) ≡ stopped m steps
+      → metered meter (converting taken (handed answer work)) ≡ stopped m (meter .steps)
   unfolding within-budget converting handed refusal-in
   converting-refused work p e = rw (p, e)
+
+-- an entry's bytes are within what a step may take
+pub entry-takes : {n : ℕ} → n ≤ entry-most → n ≤ taken-most
+unfolding entry-most
+entry-takes h = omega arith
 
 -- what the code gave on the element in its slot
 pub single-gave : {answer : Given} {work′ element : Bytes} (scratch : Bytes) (lens : List ℕ) (c : Conversion) (work : Bytes)
@@ -90,17 +115,17 @@ judged-head s well = marked (any is-mark s) refl
 -- an F code: its elms are there, with room for each, and its run is theirs
 module _ (s : Bytes) (well : Judged-well (judged s)) where
   function-judged : (o : Option (List Elm)) → judged s ≡ judging (functioned o)
-      → Stacks o 0 × ((c : Setting) → judged-run c (judged s) ≡ read-run c o [])
+      → Stacks o 0 × ((c : Setting) → judged-run c (judged s) ≡ onward (read-run c o []) top-entry)
   unfolding judging lawful judged-run read-run code-run
   function-judged none e = absurd (well-given well e)
   function-judged (some es) e = go (all-stacked es 0) refl
     where
-      go : (r : Res ℕ) → all-stacked es 0 ≡ r → Stacks (some es) 0 × ((c : Setting) → judged-run c (judged s) ≡ read-run c (some es) [])
+      go : (r : Res ℕ) → all-stacked es 0 ≡ r → Stacks (some es) 0 × ((c : Setting) → judged-run c (judged s) ≡ onward (read-run c (some es) []) top-entry)
       go (given n) f = (stacks f, λ c. rw (e, f))
       go (refused n) f = absurd (well-given {n = n} well (e ∙ rw f))
 
   pub function-code : {first : ℕ} → head s ≡ some (Head.Function first)
-      → Stacks (elms-from s first) 0 × ((c : Setting) → judged-run c (judged s) ≡ read-run c (elms-from s first) [])
+      → Stacks (elms-from s first) 0 × ((c : Setting) → judged-run c (judged s) ≡ onward (read-run c (elms-from s first) []) top-entry)
   function-code {first} h = function-judged (elms-from s first) (judged-head s well ∙ ap (λ (x : Option Head). judging (read-by s x)) h)
 
   pub bad-code : head s ≡ none → ⊥
@@ -109,27 +134,27 @@ module _ (s : Bytes) (well : Judged-well (judged s)) where
 
   -- any other: its run is one step
   pub single-code : {q : Converted} → head s ≡ some (Head.Single q)
-      → (c : Setting) → judged-run c (judged s) ≡ converting (length (c .previous)) (limited entry-most (conversion-gives (conversion-of q) (c .previous)))
+      → (c : Setting) → judged-run c (judged s) ≡ converting (length (c .previous)) (limited entry-most (conversion-gives (conversion-of s q) (c .previous)))
   unfolding judging lawful judged-run
-  single-code {q} h c = rw (judged-head s well, h) (single-run c (conversion-of q))
+  single-code {q} h c = rw (judged-head s well, h) (single-run c (conversion-of s q))
 
 -- and its numbers are within what the grammar keeps them
-whole-within : {q : Converted} (n : ℕ) {o : Option (Converted × ℕ)} → Reads Conversion-within o → whole n o ≡ some (Head.Single q) → Conversion-within q
-whole-within {q} n {o} p e = go o p e
+whole-within : {q : Converted} (s : Bytes) (n : ℕ) {o : Option (Converted × ℕ)} → Reads (Conversion-within s) o → whole n o ≡ some (Head.Single q) → Conversion-within s q
+whole-within {q} s n {o} p e = go o p e
   where
-    go : (o : Option (Converted × ℕ)) → Reads Conversion-within o → whole n o ≡ some (Head.Single q) → Conversion-within q
+    go : (o : Option (Converted × ℕ)) → Reads (Conversion-within s) o → whole n o ≡ some (Head.Single q) → Conversion-within s q
     go none p e = let z : _≡_ {A = ℕ} 0 1 = cc in absurd (omega arith)
     go (some r) p e = pick (eqb (r .1) n) e
       where
-        pick : (t : Bool) → (if t then some (Head.Single (r .0)) else none) ≡ some (Head.Single q) → Conversion-within q
+        pick : (t : Bool) → (if t then some (Head.Single (r .0)) else none) ≡ some (Head.Single q) → Conversion-within s q
         pick true e = let same : r .0 ≡ q = cc in rw same at (read-has p refl)
         pick false e = let z : _≡_ {A = ℕ} 0 1 = cc in absurd (omega arith)
 
-pub single-within : {q : Converted} (s : Bytes) → head s ≡ some (Head.Single q) → Conversion-within q
+pub single-within : {q : Converted} (s : Bytes) → head s ≡ some (Head.Single q) → Conversion-within s q
 unfolding head
 single-within {q} s h = go (eqb 70 (byte-at s 0)) (eqb 59 (byte-at s 1)) h
   where
-    go : (t u : Bool) → (if t then (if u then some (Head.Function 2) else none) else whole (length s) (place.conversion s 0)) ≡ some (Head.Single q) → Conversion-within q
+    go : (t u : Bool) → (if t then (if u then some (Head.Function 2) else none) else whole (length s) (place.conversion s 0)) ≡ some (Head.Single q) → Conversion-within s q
     go true true e = let z : _≡_ {A = ℕ} 0 1 = cc in absurd (omega arith)
     go true false e = let z : _≡_ {A = ℕ} 0 1 = cc in absurd (omega arith)
-    go false u e = whole-within (length s) (conversion-reads s 0) e
+    go false u e = whole-within s (length s) (conversion-reads s 0) e

@@ -1,7 +1,3 @@
-pub mod Laws
-pub mod Effects
-pub mod Operands
-pub mod Elms
 pub mod Within
 pub mod Turns
 pub mod CodeRuns

@@ -6,35 +6,26 @@ use Prim.Native.Nat.{ℕ, suc, _+_, _-_, _≤_}
 use native.Mathlib.Omega.{arith}
 use lib.ListN.{length, take, drop}
 use lib.Dec.{leb, eqb}
-use borrow.Author.Tests.{leb-true, eqb-true, eqb-false}
+use borrow.Author.Tests.{eqb-true, eqb-false}
 use Rattle.paper.specs.Bytes.{Bytes, if_then_else_}
 use Rattle.paper.specs.Sizes.{entry-most, code-most}
-use Rattle.paper.specs.Refusals.{Res, given, refused, over-budget}
+use Rattle.paper.specs.Refusals.{Res, given, refused}
 use Rattle.paper.specs.Records.{split}
 use Rattle.paper.specs.Codes.{Code}
 use Rattle.paper.specs.Checking.{judged, judged-all, Checked, accepted, faulty, in-front, in-turn, code-texts, check}
-use Rattle.paper.specs.Steps.{Run, done, stop, step, onward, code-run, codes-run}
+use Rattle.paper.specs.Steps.{Run, onward, code-run, codes-run}
 use Rattle.paper.specs.Converting.{Outcome, within-budget}
+use Rattle.paper.proofs.Budget.{budget-kept}
 use Rattle.paper.proofs.Runs.{resumed, budget-onward}
-use Rattle.grammar.specs.Checking.{code-end}
-use Rattle.grammar.proofs.Strings.{end-within, split-last, split-more}
+use Rattle.grammar.specs.Heads.{code-end}
+use Rattle.grammar.proofs.Cuts.{end-within, split-last, split-more}
 use Rattle.machine.specs.declared.Ran.{Ran}
-use Rattle.machine.specs.Slots.{element-slot, entry-at, Slotted, Lent}
-use Rattle.machine.specs.Stepping.{setting, setting-of}
-use Rattle.machine.specs.Runs.{ran-of, Answers, Runs, answered, judged-run, Judged-well, judged-well, checked-run, Accepted, is-accepted}
-use Rattle.machine.proofs.Turns.{stopped, runs-as}
-
--- a budget is never passed
-counted-within : (r : Run Bytes) (budget steps : ℕ) → steps ≤ budget → within-budget budget steps r .steps ≤ budget
-unfolding within-budget
-counted-within (done a) budget steps h = h
-counted-within (stop n) budget steps h = h
-counted-within (step cost r) budget steps h = go (leb (steps + cost) budget) refl (λ l. counted-within r budget (steps + cost) l)
-  where
-    go : (t : Bool) → leb (steps + cost) budget ≡ t → (steps + cost ≤ budget → within-budget budget (steps + cost) r .steps ≤ budget)
-        → (if t then within-budget budget (steps + cost) r else stopped over-budget steps) .steps ≤ budget
-    go true e again = again (leb-true _ _ e)
-    go false e again = h
+use Rattle.steps.specs.declared.Position.{Position}
+use Rattle.machine.specs.declared.Meter.{Meter}
+use Rattle.stack.specs.Slots.{element-slot, entry-at, Slotted, Lent}
+use Rattle.steps.specs.Stepping.{setting, setting-of}
+use Rattle.machine.specs.Runs.{Counted, answered, stopped, ran-of, Answers, Runs, codes-outcome, judged-run, Judged-well, judged-well, checked-run, Accepted, is-accepted}
+use Rattle.machine.proofs.Turns.{runs-as}
 
 -- what the code's answer says of the outcome
 done-is : {scratch : Bytes} {lens : List ℕ} {ran : Ran} {m : ℕ} (o : Outcome) → Runs o ran scratch lens → ran ≡ Ran.Done m
@@ -48,16 +39,16 @@ done-is {scratch} {lens} {ran} {m} o runs e = go (o .answer) refl (runs .element
         let there : entry-at scratch lens element-slot ≡ bs = rw f at a in
         let count : o .steps ≡ m = let q : Ran.Done (o .steps) ≡ Ran.Done m = rw f at g in cc in
         rw (there, ← count, ← f)
-    go (refused n) f a g = let q : Ran.Stopped n (o .steps) ≡ Ran.Done m = rw f at g in let z : _≡_ {A = ℕ} 0 1 = cc in absurd (omega arith)
+    go (refused n) f a g = let q : Ran.Stopped (o .steps) n ≡ Ran.Done m = rw f at g in let z : _≡_ {A = ℕ} 0 1 = cc in absurd (omega arith)
 
-stopped-is : {scratch : Bytes} {lens : List ℕ} {ran : Ran} {n m : ℕ} (o : Outcome) → Runs o ran scratch lens → ran ≡ Ran.Stopped n m → o ≡ stopped n m
+stopped-is : {scratch : Bytes} {lens : List ℕ} {ran : Ran} {n m : ℕ} (o : Outcome) → Runs o ran scratch lens → ran ≡ Ran.Stopped m n → o ≡ stopped n m
 unfolding ran-of
 stopped-is {scratch} {lens} {ran} {n} {m} o runs e = go (o .answer) refl (sym (runs .answers) ∙ e)
   where
-    go : (x : Res Bytes) → o .answer ≡ x → ran-of o ≡ Ran.Stopped n m → o ≡ stopped n m
-    go (given bs) f g = let q : Ran.Done (o .steps) ≡ Ran.Stopped n m = rw f at g in let z : _≡_ {A = ℕ} 0 1 = cc in absurd (omega arith)
+    go : (x : Res Bytes) → o .answer ≡ x → ran-of o ≡ Ran.Stopped m n → o ≡ stopped n m
+    go (given bs) f g = let q : Ran.Done (o .steps) ≡ Ran.Stopped m n = rw f at g in let z : _≡_ {A = ℕ} 0 1 = cc in absurd (omega arith)
     go (refused k) f g =
-        let q : Ran.Stopped k (o .steps) ≡ Ran.Stopped n m = rw f at g in
+        let q : Ran.Stopped (o .steps) k ≡ Ran.Stopped m n = rw f at g in
         let number : k ≡ n = cc in
         let count : o .steps ≡ m = cc in
         rw (← number, ← count, ← f)
@@ -74,25 +65,28 @@ pub accepted-parts : (number : ℕ) (r : Res Code) (rest : Checked) → Accepted
 accepted-parts number (given c) rest h = (judged-well, accepted-front c rest h)
 accepted-parts number (refused n) rest h = absurd (not-faulty h refl)
 
-module _ (item : Bytes) (v s : ℕ) where
+module _ (item : Bytes) (place : Position) where
   front-run : (c : Code) (rest : Checked) (e : Bytes) → Accepted rest
-      → checked-run item v s (in-front c rest) e ≡ onward (code-run entry-most (setting item v s e) c) (λ r. checked-run item v s rest r)
+      → checked-run item place (in-front c rest) e ≡ onward (code-run entry-most (setting item place e) c) (λ r. checked-run item place rest r)
   unfolding checked-run codes-run
   front-run c rest e is-accepted = refl
 
   pub first-run : (number : ℕ) (r : Res Code) (rest : Checked) (e : Bytes) → Accepted (in-turn number r rest)
-      → checked-run item v s (in-turn number r rest) e ≡ onward (judged-run (setting item v s e) r) (λ q. checked-run item v s rest q)
+      → checked-run item place (in-turn number r rest) e ≡ onward (judged-run (setting item place e) r) (λ q. checked-run item place rest q)
   unfolding judged-run checked-run onward
   first-run number (given c) rest e h = front-run c rest e (accepted-front c rest h)
   first-run number (refused n) rest e h = refl
 
--- The run through the parts of a string, `from` steps counted, as it stands at a turn of the loop.
-module _ (item string : Bytes) (v s budget from : ℕ) (scratch₀ : Bytes) (lens₀ : List ℕ) where
+-- The run through the parts of a string, as it stands at a turn of the loop.
+module _ (item string : Bytes) (place : Position) (meter : Meter) (scratch₀ : Bytes) (lens₀ : List ℕ) where
+  abbrev budget : ℕ
+  budget = meter .budget
+
   abbrev left-at : ℕ → ℕ → Checked
   left-at number at = judged-all number (split 253 (drop at string))
 
   abbrev pub whole-run : Outcome
-  whole-run = within-budget budget from (checked-run item v s (judged-all 1 (split 253 string)) (entry-at scratch₀ lens₀ element-slot))
+  whole-run = codes-outcome item (judged-all 1 (split 253 string)) place meter scratch₀ lens₀
 
   pub record Part (at steps : ℕ) (scratch : Bytes) (lens : List ℕ) (work : Bytes) : Type 0 where
     pub number : ℕ
@@ -100,10 +94,10 @@ module _ (item string : Bytes) (v s budget from : ℕ) (scratch₀ : Bytes) (len
     pub within-string : at ≤ length string
     pub counted : steps ≤ budget
     pub ready : Accepted (left-at number at)
-    pub same : whole-run ≡ within-budget budget steps (checked-run item v s (left-at number at) (entry-at scratch lens element-slot))
+    pub same : whole-run ≡ within-budget budget steps (checked-run item place (left-at number at) (entry-at scratch lens element-slot))
 
-  pub part-first : {work : Bytes} → Lent item scratch₀ lens₀ work → from ≤ budget → Accepted (judged-all 1 (split 253 string))
-      → Part 0 from scratch₀ lens₀ work
+  pub part-first : {work : Bytes} → Lent item scratch₀ lens₀ work → Counted meter → Accepted (judged-all 1 (split 253 string))
+      → Part 0 (meter .steps) scratch₀ lens₀ work
   part-first lent h ready = record { number = 1; lent = lent; within-string = omega arith; counted = h; ready = ready; same = refl }
 
   module _ {at steps : ℕ} {scratch : Bytes} {lens : List ℕ} {work : Bytes} (part : Part at steps scratch lens work) {end : ℕ}
@@ -112,7 +106,7 @@ module _ (item string : Bytes) (v s budget from : ℕ) (scratch₀ : Bytes) (len
     this-code = take (end - at) (drop at string)
 
     abbrev this-run : Outcome
-    this-run = within-budget budget steps (judged-run (setting-of item v s scratch lens) (judged this-code))
+    this-run = within-budget budget steps (judged-run (setting-of item place scratch lens) (judged this-code))
 
     pub part-ends : (at ≤ end) × (end ≤ length string)
     part-ends = end-within string at (part .within-string) e
@@ -127,18 +121,18 @@ module _ (item string : Bytes) (v s budget from : ℕ) (scratch₀ : Bytes) (len
       split-well = accepted-parts (part .number) (judged this-code) (judged-all (suc (part .number)) tail) there
 
       abbrev those-after : Bytes → Run Bytes
-      those-after r = checked-run item v s (judged-all (suc (part .number)) tail) r
+      those-after r = checked-run item place (judged-all (suc (part .number)) tail) r
 
       by-code : whole-run ≡ resumed budget those-after this-run
       unfolding judged-all
       by-code =
           part .same
-          ∙ ap (λ (ps : List Bytes). within-budget budget steps (checked-run item v s (judged-all (part .number) ps) (entry-at scratch lens element-slot))) cut
-          ∙ ap (λ (r : Run Bytes). within-budget budget steps r) (first-run item v s (part .number) (judged this-code) (judged-all (suc (part .number)) tail) (entry-at scratch lens element-slot) there)
-          ∙ budget-onward (judged-run (setting-of item v s scratch lens) (judged this-code)) those-after budget steps
+          ∙ ap (λ (ps : List Bytes). within-budget budget steps (checked-run item place (judged-all (part .number) ps) (entry-at scratch lens element-slot))) cut
+          ∙ ap (λ (r : Run Bytes). within-budget budget steps r) (first-run item place (part .number) (judged this-code) (judged-all (suc (part .number)) tail) (entry-at scratch lens element-slot) there)
+          ∙ budget-onward (judged-run (setting-of item place scratch lens) (judged this-code)) those-after budget steps
 
       module _ {ran : Ran} {scratch′ : Bytes} {lens′ : List ℕ} (runs : Runs this-run ran scratch′ lens′) where
-        stops : {n m : ℕ} → ran ≡ Ran.Stopped n m → Runs whole-run ran scratch′ lens′
+        stops : {n m : ℕ} → ran ≡ Ran.Stopped m n → Runs whole-run ran scratch′ lens′
         unfolding resumed
         stops q =
             let o : this-run ≡ _ = stopped-is this-run runs q in
@@ -153,7 +147,7 @@ module _ (item string : Bytes) (v s budget from : ℕ) (scratch₀ : Bytes) (len
             omega (
               arith,
               ap (λ (o : Outcome). o .steps) (done-is this-run runs q),
-              counted-within (judged-run (setting-of item v s scratch lens) (judged this-code)) budget steps (part .counted),
+              budget-kept (judged-run (setting-of item place scratch lens) (judged this-code)) budget steps (part .counted),
             )
 
     -- none are after it at the string's end
@@ -173,7 +167,7 @@ module _ (item string : Bytes) (v s budget from : ℕ) (scratch₀ : Bytes) (len
     part-well = split-well behind cut-there .0
 
     module _ {ran : Ran} {scratch′ : Bytes} {lens′ : List ℕ} (runs : Runs this-run ran scratch′ lens′) where
-      pub part-stops : {n m : ℕ} → ran ≡ Ran.Stopped n m → Runs whole-run ran scratch′ lens′
+      pub part-stops : {n m : ℕ} → ran ≡ Ran.Stopped m n → Runs whole-run ran scratch′ lens′
       part-stops q = stops behind cut-there runs q
 
       module _ {m : ℕ} (q : ran ≡ Ran.Done m) where
@@ -197,11 +191,11 @@ module _ (item string : Bytes) (v s budget from : ℕ) (scratch₀ : Bytes) (len
             }
 
 -- an empty string has no codes: the element is the answer
-pub no-codes : {scratch : Bytes} {lens : List ℕ} (item string : Bytes) (v s budget steps : ℕ) → Slotted scratch lens → length string ≡ 0
-    → Runs (within-budget budget steps (checked-run item v s (check string) (entry-at scratch lens element-slot))) (Ran.Done steps) scratch lens
+pub no-codes : {scratch : Bytes} {lens : List ℕ} (item string : Bytes) (place : Position) (meter : Meter) → Slotted scratch lens → length string ≡ 0
+    → Runs (codes-outcome item (check string) place meter scratch lens) (Ran.Done (meter .steps)) scratch lens
 unfolding within-budget check code-texts judged-all checked-run codes-run ran-of
-no-codes item [] v s budget steps slotted h = record { answers = refl; element = refl; slotted = slotted }
-no-codes item (b ∷ bs) v s budget steps slotted h = absurd (omega arith)
+no-codes item [] place meter slotted h = record { answers = refl; element = refl; slotted = slotted }
+no-codes item (b ∷ bs) place meter slotted h = absurd (omega arith)
 
 -- any other has the parts between its marks
 pub checked-parts : (string : Bytes) → Accepted (check string) → (length string ≡ 0 → ⊥) → check string ≡ judged-all 1 (split 253 string)

@@ -18,11 +18,12 @@ use Rattle.paper.specs.Steps.{Run, onward, conversion-gives, limited, codes-run
 use Rattle.codes.specs.declared.Conversion.{Conversion}
 use Rattle.codes.specs.Meaning.{conversion-of}
 use Rattle.grammar.specs.declared.Head.{Head}
-use Rattle.grammar.specs.Checking.{head, code-end}
-use Rattle.grammar.proofs.Strings.{split-last}
+use Rattle.grammar.specs.Heads.{head, code-end}
+use Rattle.grammar.proofs.Cuts.{split-last}
 use Rattle.machine.specs.declared.Plan.{Plan}
-use Rattle.machine.specs.Bounds.{Conversion-within}
-use Rattle.machine.specs.Stepping.{setting}
+use Rattle.steps.specs.declared.Position.{Position}
+use Rattle.steps.specs.Bounds.{Conversion-within}
+use Rattle.steps.specs.Stepping.{setting}
 use Rattle.machine.specs.Runs.{converting, Judged-well, checked-run, Accepted}
 use Rattle.machine.specs.Plans.{planned, plan-of}
 use Rattle.machine.proofs.CodeRuns.{single-code, single-within}
@@ -48,11 +49,11 @@ module _ (string : Bytes) where
     plan-parted k = rw (f, ← g, ne-eqb end (length string) k)
 
 -- the answer of a single code is that of the string, with no code after it
-last-run : (item : Bytes) (v s taken : ℕ) (x : Res Bytes)
-    → onward (converting taken x) (λ (r : Bytes). checked-run item v s (accepted []) r) ≡ converting taken x
+last-run : (item : Bytes) (place : Position) (taken : ℕ) (x : Res Bytes)
+    → onward (converting taken x) (λ (r : Bytes). checked-run item place (accepted []) r) ≡ converting taken x
 unfolding onward converting checked-run codes-run
-last-run item v s taken (refused n) = refl
-last-run item v s taken (given bs) = refl
+last-run item place taken (refused n) = refl
+last-run item place taken (given bs) = refl
 
 module _ {c : Conversion} (string : Bytes) (ready : Accepted (judged-all 1 (split 253 string))) (e : Plan.Single c ≡ plan-of string) where
   -- no mark parts it
@@ -82,13 +83,13 @@ module _ {c : Conversion} (string : Bytes) (ready : Accepted (judged-all 1 (spli
   well : Judged-well (judged string)
   well = accepted-parts 1 (judged string) (accepted []) ready-one .0
 
-  pub plan-within : Conversion-within c
+  pub plan-within : Conversion-within string c
   plan-within = single-within string (alone .0)
 
-  pub plan-run : (item : Bytes) (v s : ℕ) (text : Bytes)
-      → checked-run item v s (judged-all 1 (split 253 string)) text ≡ converting (length text) (limited entry-most (conversion-gives (conversion-of c) text))
-  plan-run item v s text =
-      ap (λ (x : Checked). checked-run item v s x text) one-code
-      ∙ first-run item v s 1 (judged string) (accepted []) text ready-one
-      ∙ ap (λ (r : Run Bytes). onward r (λ (q : Bytes). checked-run item v s (accepted []) q)) (single-code string well (alone .0) (setting item v s text))
-      ∙ last-run item v s (length text) (limited entry-most (conversion-gives (conversion-of c) text))
+  pub plan-run : (item : Bytes) (place : Position) (text : Bytes)
+      → checked-run item place (judged-all 1 (split 253 string)) text ≡ converting (length text) (limited entry-most (conversion-gives (conversion-of string c) text))
+  plan-run item place text =
+      ap (λ (x : Checked). checked-run item place x text) one-code
+      ∙ first-run item place 1 (judged string) (accepted []) text ready-one
+      ∙ ap (λ (r : Run Bytes). onward r (λ (q : Bytes). checked-run item place (accepted []) q)) (single-code string well (alone .0) (setting item place text))
+      ∙ last-run item place (length text) (limited entry-most (conversion-gives (conversion-of string c) text))

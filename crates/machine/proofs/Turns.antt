@@ -6,40 +6,42 @@ use mathlib.Core.Option.{Option, none, some}
 use Prim.Native.Nat.{ℕ, zero, suc, _+_, _-_, _≤_, _<_}
 use native.Mathlib.Omega.{arith}
 use lib.ListN.{length}
-use lib.Dec.{leb, eqb, lit≤}
+use lib.Dec.{leb, eqb}
 use borrow.Author.Tests.{le-leb, lt-leb, leb-true, leb-false, eq-eqb, ne-eqb, eqb-true, eqb-false}
 use Rattle.paper.specs.Bytes.{Bytes, if_then_else_}
 use Rattle.paper.specs.Sizes.{entry-most, stack-most}
 use Rattle.paper.specs.Refusals.{Res, given, refused, _>>=_, _>>_, refuse_unless_, over-budget}
-use Rattle.paper.specs.Codes.{Operand, Elm}
+use Rattle.paper.specs.Codes.{Elm}
 use Rattle.paper.specs.Checking.{shape, stacked, all-stacked, Room}
-use Rattle.paper.specs.Steps.{Setting, Run, step, stepped, elm-step, elms-run, top-entry}
-use Rattle.paper.specs.Converting.{Outcome, within-budget}
+use Rattle.paper.specs.Steps.{Setting, Run, step, stepped, onward, elm-step, elms-run, top-entry}
+use Rattle.paper.specs.Converting.{Ending, Outcome, within-budget}
 use Rattle.paper.proofs.Predicates.{held, All, none-of, and-all}
+use Rattle.paper.proofs.Stack.{puts-one}
 use Rattle.paper.proofs.Entries.{Fit, steps-within}
+use Rattle.paper.proofs.Runs.{resumed, budget-onward}
 use Rattle.codes.specs.declared.Elm.{Elm as Coded}
 use Rattle.codes.specs.Meaning.{elm-of}
 use Rattle.grammar.specs.Places.{byte-at, after, Peeked}
 use Rattle.grammar.specs.Reading as place
-use Rattle.grammar.specs.Checking.{elms-from}
+use Rattle.grammar.specs.Heads.{elms-from}
 use Rattle.grammar.proofs.Bytes.{after-inside}
 use Rattle.grammar.proofs.Parted.{elm-onto, elm-within, elms-none, elms-last, elms-more, elms-stray}
-use Rattle.machine.specs.declared.Step.{Step}
+use Rattle.stack.specs.declared.Step.{Step}
 use Rattle.machine.specs.declared.Ran.{Ran}
-use Rattle.machine.specs.Slots.{slots, element-slot, entry-at, stack-of, Slotted, Lent}
-use Rattle.machine.specs.Bounds.{Elm-within}
-use Rattle.machine.specs.Stepping.{step-of, stack-after, held-after, step-refusal, setting-of, Settles, Elm-settles}
-use Rattle.machine.specs.Runs.{ran-of, Runs, answered, read-run, Stacks, stacks}
-use Rattle.machine.proofs.Laws.{Put, entry-fits, after-same, after-slotted}
-use Rattle.machine.proofs.Effects.{stack-length}
+use Rattle.machine.specs.declared.Stretch.{Stretch}
+use Rattle.steps.specs.declared.Position.{Position}
+use Rattle.machine.specs.declared.Meter.{Meter}
+use Rattle.stack.specs.Slots.{slots, element-slot, entry-at, stack-of, Slotted, Lent}
+use Rattle.steps.specs.Bounds.{Elm-within}
+use Rattle.stack.specs.Charging.{step-of, stack-after, held-after, step-refusal, Charges}
+use Rattle.steps.specs.Stepping.{setting-of, Elm-charges}
+use Rattle.machine.specs.Runs.{metered, Counted, answered, stopped, ran-of, Runs, stretch-of, Leaves, Stretches, stopped-as, read-run, elms-outcome, Stacks, stacks}
+use Rattle.stack.proofs.Putting.{Put, entry-fits, after-same, after-slotted}
+use Rattle.stack.proofs.Charges.{stack-length}
 use Rattle.machine.proofs.Within.{elm-reads, read-has}
 
--- a run that was stopped
-abbrev pub stopped : ℕ → ℕ → Outcome
-stopped n steps = record { answer = refused n; steps = steps }
-
 pub runs-stopped : {o : Outcome} {scratch : Bytes} {lens : List ℕ} (n steps : ℕ) → Slotted scratch lens → o ≡ stopped n steps
-    → Runs o (Ran.Stopped n steps) scratch lens
+    → Runs o (Ran.Stopped steps n) scratch lens
 unfolding ran-of
 runs-stopped n steps slotted e = rw e (record { answers = refl; element = tt; slotted = slotted })
 
@@ -58,12 +60,18 @@ runs-answered slotted bs steps fit put =
 pub runs-as : {o q : Outcome} {r : Ran} {scratch : Bytes} {lens : List ℕ} → o ≡ q → Runs q r scratch lens → Runs o r scratch lens
 runs-as e t = rw e t
 
-pub runs-refused : {o : Outcome} {step : Step} {scratch : Bytes} {lens : List ℕ} {k m steps : ℕ} → k ≡ step-refusal step → step ≡ Step.Refused m
-    → Runs o (Ran.Stopped m steps) scratch lens → Runs o (Ran.Stopped k steps) scratch lens
-runs-refused e told t = rw (e ∙ ap step-refusal told) t
+-- the same of a stretch
+pub stretch-stopped : {o : Ending (List Bytes)} {scratch : Bytes} {lens : List ℕ} (n steps : ℕ) → Slotted scratch lens → o ≡ stopped n steps
+    → Stretches o (Stretch.Stopped steps n) scratch lens
+unfolding stretch-of
+stretch-stopped n steps slotted e = rw e (record { answers = refl; stack = tt; slotted = slotted })
+
+pub stretch-refused : {o : Ending (List Bytes)} {step : Step} {scratch : Bytes} {lens : List ℕ} {k m steps : ℕ} → k ≡ step-refusal step
+    → step ≡ Step.Refused m → Stretches o (Stretch.Stopped steps m) scratch lens → Stretches o (Stretch.Stopped steps k) scratch lens
+stretch-refused e told t = rw (e ∙ ap step-refusal told) t
 
 -- One step under a budget, with so much of it left.
-module _ (budget steps : ℕ) (x : Res (ℕ × List Bytes)) (k : List Bytes → Run Bytes) (within : steps ≤ budget) where
+module _ (budget steps : ℕ) (x : Res (ℕ × List Bytes)) (k : List Bytes → Run (List Bytes)) (within : steps ≤ budget) where
   -- its own refusal, or 15
   pub step-stops : (n : ℕ) → step-of (budget - steps) x ≡ Step.Refused n → within-budget budget steps (stepped x k) ≡ stopped n steps
   unfolding step-of stepped within-budget
@@ -185,20 +193,8 @@ elms-onto {e} {n} {entries} s at h f ready = ends (eqb n (length s)) refl
     ends true g = elms-last s at h e n f (eqb-true _ _ g) ∙ ap (elm-onto (elm-of s e)) (sym (rest-last s n (eqb-true _ _ g)))
     ends false g = parted (eqb (byte-at s n) 59) refl (eqb-false _ _ g) ∙ ap (elm-onto (elm-of s e)) (sym (rest-more s n (eqb-false _ _ g)))
 
--- every elm puts an entry
-puts-one : (e : Elm) → 1 ≤ shape e .puts
-unfolding shape
-puts-one (Elm.push (Operand.attribute n r)) = lit≤ tt
-puts-one (Elm.push (Operand.literal bs)) = lit≤ tt
-puts-one (Elm.push Operand.previous) = lit≤ tt
-puts-one (Elm.binary o) = lit≤ tt
-puts-one Elm.substring = lit≤ tt
-puts-one Elm.exchange = lit≤ tt
-puts-one Elm.duplicate = lit≤ tt
-puts-one (Elm.convert k) = lit≤ tt
-
 -- the top entry answers
-top-answers : (budget steps : ℕ) (scratch : Bytes) (lens : List ℕ) (n : ℕ) → 1 ≤ n
+pub top-answers : (budget steps : ℕ) (scratch : Bytes) (lens : List ℕ) (n : ℕ) → 1 ≤ n
     → within-budget budget steps (top-entry (stack-of scratch lens n)) ≡ answered (entry-at scratch lens (n - 1)) steps
 unfolding within-budget top-entry stack-of
 top-answers budget steps scratch lens zero h = absurd (omega arith)
@@ -206,13 +202,16 @@ top-answers budget steps scratch lens (suc n) h =
     let e : suc n - 1 ≡ n = omega arith in
     rw e
 
--- The run of the elms of an F code from place `first` on, `from` steps counted, as it stands at a turn of the loop.
-module _ (item code : Bytes) (v s budget first from : ℕ) (scratch₀ : Bytes) (lens₀ : List ℕ) where
+-- The run of the elms of an F code from place `first` on, as it stands at a turn of the loop.
+module _ (item code : Bytes) (first : ℕ) (position : Position) (meter : Meter) (scratch₀ : Bytes) (lens₀ : List ℕ) where
   abbrev there : Setting
-  there = setting-of item v s scratch₀ lens₀
+  there = setting-of item position scratch₀ lens₀
 
-  abbrev pub whole-run : Outcome
-  whole-run = within-budget budget from (read-run there (elms-from code first) [])
+  abbrev budget : ℕ
+  budget = meter .budget
+
+  abbrev pub whole-run : Ending (List Bytes)
+  whole-run = elms-outcome item code first position meter scratch₀ lens₀
 
   pub record Turn (at entries steps : ℕ) (scratch : Bytes) (lens : List ℕ) (work : Bytes) : Type 0 where
     pub lent : Lent item scratch lens work
@@ -223,8 +222,8 @@ module _ (item code : Bytes) (v s budget first from : ℕ) (scratch₀ : Bytes) 
     pub ready : Stacks (elms-from code at) entries
     pub same : whole-run ≡ within-budget budget steps (read-run there (elms-from code at) (stack-of scratch lens entries))
 
-  pub turn-first : {work : Bytes} → Lent item scratch₀ lens₀ work → first ≤ length code → from ≤ budget → Stacks (elms-from code first) 0
-      → Turn first 0 from scratch₀ lens₀ work
+  pub turn-first : {work : Bytes} → Lent item scratch₀ lens₀ work → first ≤ length code → Counted meter → Stacks (elms-from code first) 0
+      → Turn first 0 (meter .steps) scratch₀ lens₀ work
   unfolding stack-of
   turn-first lent h l ready =
       record { lent = lent; within-code = h; element = refl; few = omega arith; counted = l; ready = ready; same = refl }
@@ -253,22 +252,22 @@ module _ (item code : Bytes) (v s budget first from : ℕ) (scratch₀ : Bytes) 
       abbrev this-step : Res (ℕ × List Bytes)
       this-step = elm-step entry-most there (elm-of code e) (stack-of scratch lens entries)
 
-      abbrev those-after : List Bytes → Run Bytes
+      abbrev those-after : List Bytes → Run (List Bytes)
       those-after stack = read-run there (rest-of code n) stack
 
       by-step : whole-run ≡ within-budget budget steps (stepped this-step those-after)
       by-step =
           turn .same
           ∙ ap (λ (o : Option (List Elm)). within-budget budget steps (read-run there o (stack-of scratch lens entries))) onto
-          ∙ ap (λ (r : Run Bytes). within-budget budget steps r) (run-onto there (elm-of code e) (stack-of scratch lens entries) (found .1))
+          ∙ ap (λ (r : Run (List Bytes)). within-budget budget steps r) (run-onto there (elm-of code e) (stack-of scratch lens entries) (found .1))
 
-      module _ {r : Step} {scratch′ : Bytes} {lens′ : List ℕ} (settled : Elm-settles (budget - steps) item code e v s entries r scratch lens scratch′ lens′) where
-        settled-there : Settles (budget - steps) this-step r scratch lens scratch′ lens′
+      module _ {r : Step} {scratch′ : Bytes} {lens′ : List ℕ} (settled : Elm-charges (budget - steps) item code e position entries r scratch lens scratch′ lens′) where
+        settled-there : Charges (budget - steps) this-step r scratch lens scratch′ lens′
         settled-there = rw (turn .element) at settled
 
-        pub turn-stops : {m : ℕ} → r ≡ Step.Refused m → Runs whole-run (Ran.Stopped m steps) scratch′ lens′
+        pub turn-stops : {m : ℕ} → r ≡ Step.Refused m → Stretches whole-run (Stretch.Stopped steps m) scratch′ lens′
         turn-stops {m} q =
-            runs-stopped m steps (settled .slotted)
+            stretch-stopped m steps (settled .slotted)
             (by-step ∙ step-stops budget steps this-step those-after (turn .counted) m (sym (settled-there .answers) ∙ q))
 
         module _ {cost entries′ : ℕ} (q : r ≡ Step.Done cost entries′) where
@@ -309,9 +308,72 @@ module _ (item code : Bytes) (v s budget first from : ℕ) (scratch₀ : Bytes) 
                 same = goes-on ∙ ap (λ (o : Option (List Elm)). within-budget budget (steps + cost) (read-run there o (stack-of scratch′ lens′ entries′))) (rest-more code n ne);
               }
 
-          pub turn-last : n ≡ length code → whole-run ≡ answered (entry-at scratch′ lens′ (entries′ - 1)) (steps + cost)
-          unfolding read-run elms-run
-          turn-last h =
+          ended : n ≡ length code → whole-run ≡ answered (stack-of scratch′ lens′ entries′) (steps + cost)
+          unfolding read-run elms-run within-budget
+          ended h =
               goes-on
               ∙ ap (λ (o : Option (List Elm)). within-budget budget (steps + cost) (read-run there o (stack-of scratch′ lens′ entries′))) (rest-last code n h)
-              ∙ top-answers budget (steps + cost) scratch′ lens′ entries′ (turn-held .0)
+
+          pub turn-last : n ≡ length code → Stretches whole-run (Stretch.Done entries′ (steps + cost)) scratch′ lens′
+          unfolding stretch-of
+          turn-last h =
+              rw (ended h)
+              (record {
+                answers = rw (stack-length scratch′ lens′ entries′);
+                stack = rw (stack-length scratch′ lens′ entries′) (refl, turn-held .0, turn-held .1);
+                slotted = settled .slotted;
+              })
+
+-- what a stretch's answer says of its outcome
+stretch-stopped-is : {n m : ℕ} (o : Ending (List Bytes)) → stretch-of o ≡ Stretch.Stopped m n → o ≡ stopped n m
+unfolding stretch-of
+stretch-stopped-is {n} {m} o e = go (o .answer) refl
+  where
+    go : (x : Res (List Bytes)) → o .answer ≡ x → o ≡ stopped n m
+    go (given stack) f =
+        let q : Stretch.Done (length stack) (o .steps) ≡ Stretch.Stopped m n = rw f at e in
+        let z : _≡_ {A = ℕ} 0 1 = cc in absurd (omega arith)
+    go (refused k) f =
+        let q : Stretch.Stopped (o .steps) k ≡ Stretch.Stopped m n = rw f at e in
+        let number : k ≡ n = cc in
+        let count : o .steps ≡ m = cc in
+        rw (← number, ← count, ← f)
+
+stretch-done-is : {scratch : Bytes} {lens : List ℕ} {r : Stretch} {n m : ℕ} (o : Ending (List Bytes)) → Stretches o r scratch lens → r ≡ Stretch.Done n m
+    → (o ≡ answered (stack-of scratch lens n) m) × (1 ≤ n) × (n ≤ stack-most)
+unfolding stretch-of
+stretch-done-is {scratch} {lens} {r} {n} {m} o left e = go (o .answer) refl (left .stack) (sym (left .answers) ∙ e)
+  where
+    go : (x : Res (List Bytes)) → o .answer ≡ x → Leaves (o .answer) scratch lens → stretch-of o ≡ Stretch.Done n m
+        → (o ≡ answered (stack-of scratch lens n) m) × (1 ≤ n) × (n ≤ stack-most)
+    go (given stack) f a g =
+        let q : Stretch.Done (length stack) (o .steps) ≡ Stretch.Done n m = rw f at g in
+        let deep : length stack ≡ n = cc in
+        let count : o .steps ≡ m = cc in
+        let held : Leaves (given stack) scratch lens = rw f at a in
+        let there : stack-of scratch lens n ≡ stack = rw (← deep) (held .0) in
+        (rw (there, ← count, ← f), omega (arith, held .1), omega (arith, held .2))
+    go (refused k) f a g =
+        let q : Stretch.Stopped (o .steps) k ≡ Stretch.Done n m = rw f at g in
+        let z : _≡_ {A = ℕ} 0 1 = cc in absurd (omega arith)
+
+-- The answer of an F code is taken from the stack that its elms leave.
+module _ {scratch : Bytes} {lens : List ℕ} {r : Stretch} (meter : Meter) (run : Run (List Bytes)) (left : Stretches (metered meter run) r scratch lens) where
+  pub function-stops : {n m : ℕ} {ran : Ran} → r ≡ Stretch.Stopped m n → ran ≡ stopped-as r → Runs (metered meter (onward run top-entry)) ran scratch lens
+  unfolding resumed stopped-as
+  function-stops {n} {m} e f =
+      rw (f, e)
+      (runs-stopped n m (left .slotted)
+      (budget-onward run top-entry (meter .budget) (meter .steps)
+      ∙ ap (resumed (meter .budget) top-entry) (stretch-stopped-is (metered meter run) (sym (left .answers) ∙ e))))
+
+  module _ {n m : ℕ} (e : r ≡ Stretch.Done n m) where
+    pub function-held : (1 ≤ n) × (n ≤ stack-most)
+    function-held = let done = stretch-done-is (metered meter run) left e in (done .1, done .2)
+
+    pub function-answers : metered meter (onward run top-entry) ≡ answered (entry-at scratch lens (n - 1)) m
+    unfolding resumed
+    function-answers =
+        budget-onward run top-entry (meter .budget) (meter .steps)
+        ∙ ap (resumed (meter .budget) top-entry) (stretch-done-is (metered meter run) left e .0)
+        ∙ top-answers (meter .budget) m scratch lens n (function-held .0)

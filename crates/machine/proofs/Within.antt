@@ -10,7 +10,8 @@ use lib.Dec.{leb, eqb, lit≤}
 use borrow.Author.Tests.{leb-true}
 use Rattle.paper.specs.Bytes.{Bytes, if_then_else_, within, digit-value}
 use Rattle.paper.specs.Grammar.{is-separator}
-use Rattle.paper.proofs.Predicates.{All, none-of, and-all}
+use Rattle.paper.proofs.Truths.{both}
+use Rattle.paper.proofs.Predicates.{Reads, reads, reads-not, reads-either, All, none-of, and-all}
 use Rattle.codes.specs.declared.Plain.{Plain}
 use Rattle.codes.specs.declared.Fill.{Fill}
 use Rattle.codes.specs.Meaning.{fill-of, mask-of}
@@ -18,12 +19,7 @@ use Rattle.masks.specs.Bounds.{field-width}
 use Rattle.grammar.specs.Places.{Placed, byte-at, after, follow, follow-or, only-if, choose-or, this, flag, digit, num, numeral}
 use Rattle.grammar.specs.Reading as place
 use Rattle.grammar.proofs.Taken.{digit-small}
-use Rattle.machine.specs.Bounds.{attribute-within, literal-within, previous-within, multiply-within, divide-within, rest-within, add-within, subtract-within, arithmetic-within, concatenate-within, relate-within, Conversion-within, plain-within, mask-within, date-within, Elm-within, push-within, binary-within, substring-within, exchange-within, duplicate-within, convert-within}
-
--- nothing read, or something with P
-pub data Reads {A : Type 0} (P : A → Type 0) : Option (A × ℕ) → Type 0 where
-  reads : {r : A × ℕ} → P (r .0) → Reads P (some r)
-  reads-not : Reads P none
+use Rattle.steps.specs.Bounds.{attribute-within, literal-within, previous-within, multiply-within, divide-within, rest-within, add-within, subtract-within, arithmetic-within, concatenate-within, relate-within, Conversion-within, plain-within, mask-within, date-within, Elm-within, push-within, binary-within, substring-within, exchange-within, duplicate-within, convert-within}
 
 pub read-has : {A : Type 0} {P : A → Type 0} {o : Option (A × ℕ)} {a : A} {n : ℕ} → Reads P o → o ≡ some (a, n) → P a
 read-has {A} {P} {o} {a} {n} p e = has (rw e at p)
@@ -34,10 +30,6 @@ read-has {A} {P} {o} {a} {n} p e = has (rw e at p)
 -- wherever it reads
 abbrev Ever : {A : Type 0} → (A → Type 0) → Bytes → Placed A → Type 0
 Ever P s r = (n : ℕ) → Reads P (r s n)
-
-either : {A : Type 0} {P : A → Type 0} (t : Bool) {x y : Option (A × ℕ)} → Reads P x → Reads P y → Reads P (if t then x else y)
-either true p q = p
-either false p q = q
 
 follow-then : {A B : Type 0} {P : A → Type 0} {Q : B → Type 0} {s : Bytes} {o : Option (A × ℕ)} (k : A → Placed B) → Reads P o
     → ((a : A) → P a → Ever Q s (k a)) → Reads Q (follow o k s)
@@ -64,15 +56,11 @@ only-then : {A : Type 0} {Q : A → Type 0} {s : Bytes} (t : Bool) (k : Unit {0}
 only-then true k n f = f refl n
 only-then false k n f = reads-not
 
-both-true : (t u : Bool) → (t && u) ≡ true → u ≡ true
-both-true true u e = e
-both-true false u e = let z : _≡_ {A = ℕ} 0 1 = cc in absurd (omega arith)
-
 choose-reads : {A : Type 0} {P : A → Type 0} {s : Bytes} {cs : List (ℕ × Placed A)} (other : Placed A) → All (λ c. Ever P s (c .1)) cs
     → Ever P s other → Ever P s (choose-or cs other)
 unfolding choose-or
 choose-reads other none-of q n = q n
-choose-reads {A} {P} {s} other (and-all {a = c} p ps) q n = either (eqb (c .0) (byte-at s n)) (p (after s n)) (choose-reads other ps q n)
+choose-reads {A} {P} {s} other (and-all {a = c} p ps) q n = reads-either (eqb (c .0) (byte-at s n)) (p (after s n)) (choose-reads other ps q n)
 
 digit-reads : (s : Bytes) → Ever (λ d. d ≤ 9) s digit
 digit-reads s n = small (digit s n) refl
@@ -100,13 +88,13 @@ module _ (s : Bytes) where
   width-reads : (b : ℕ) → Ever Narrow s (place.fill-field b)
   unfolding place.fill-field field-width fill-of
   width-reads b n =
-      follow-any (num s n) _ (λ v k. only-then (within 1 99 v) _ k (λ e j. follow-any (this 41 s j) _ (λ _ i. reads (leb-true v 99 (both-true (leb 1 v) (leb v 99) e)))))
+      follow-any (num s n) _ (λ v k. only-then (within 1 99 v) _ k (λ e j. follow-any (this 41 s j) _ (λ _ i. reads (leb-true v 99 (both (leb 1 v) (leb v 99) e .1)))))
 
   fill-reads : Ever Narrow s place.fill-part
   unfolding place.fill-part place.fill-width field-width fill-of
   fill-reads = choose-reads _ (and-all (λ n. follow-any (place.fill-byte s n) _ width-reads) none-of) (λ n. reads (lit≤ tt))
 
-  mask-reads : (left : Bool) → Ever Conversion-within s (place.mask-code left)
+  mask-reads : (left : Bool) → Ever (Conversion-within s) s (place.mask-code left)
   unfolding place.mask-code mask-of
   mask-reads left n =
       follow-then _ (scales-reads n) (λ nm p j.
@@ -118,28 +106,28 @@ module _ (s : Bytes) where
       reads (mask-within (record { decimals = p .0; scale = p .1; width = w }))))))))
 
   -- `D{n}{s}`, "n 0 to 4"
-  date-reads : {d : ℕ} → d ≤ 4 → Ever Conversion-within s (place.date-after d)
+  date-reads : {d : ℕ} → d ≤ 4 → Ever (Conversion-within s) s (place.date-after d)
   unfolding place.date-after
-  date-reads h n = either (is-separator (byte-at s n)) (reads (date-within h)) (reads (date-within h))
+  date-reads h n = reads-either (is-separator (byte-at s n)) (reads (date-within h)) (reads (date-within h))
 
-  dates-read : Ever Conversion-within s place.date-code
+  dates-read : Ever (Conversion-within s) s place.date-code
   unfolding place.date-code digit-value
   dates-read n = digits (leb 48 (byte-at s n)) (leb (byte-at s n) 52) refl
     where
       digits : (t u : Bool) → leb (byte-at s n) 52 ≡ u
-          → Reads Conversion-within (if t && u then place.date-after (byte-at s n - 48) s (after s n) else place.date-after 4 s n)
+          → Reads (Conversion-within s) (if t && u then place.date-after (byte-at s n - 48) s (after s n) else place.date-after 4 s n)
       digits true true e = let h : byte-at s n ≤ 52 = leb-true _ _ e in date-reads (omega arith) (after s n)
       digits true false e = date-reads (lit≤ tt) n
       digits false u e = date-reads (lit≤ tt) n
 
-  plain-reads : (r : Placed Plain) → Ever Conversion-within s (place.as-plain r)
+  plain-reads : (r : Placed Plain) → Ever (Conversion-within s) s (place.as-plain r)
   plain-reads r n = any (r s n)
     where
-      any : (o : Option (Plain × ℕ)) → Reads Conversion-within (place.plained o)
+      any : (o : Option (Plain × ℕ)) → Reads (Conversion-within s) (place.plained o)
       any none = reads-not
       any (some q) = reads plain-within
 
-  masking-reads : Ever Conversion-within s place.masking-code
+  masking-reads : Ever (Conversion-within s) s place.masking-code
   unfolding place.masking-code
   masking-reads =
       choose-reads _
@@ -150,7 +138,7 @@ module _ (s : Bytes) where
       (and-all (mask-reads false) none-of)))))
       (λ n. reads-not)
 
-  pub conversion-reads : Ever Conversion-within s place.conversion
+  pub conversion-reads : Ever (Conversion-within s) s place.conversion
   unfolding place.conversion
   conversion-reads =
       choose-reads _

@@ -4,7 +4,7 @@ use lib.ListN.{length}
 use lib.Dec.{eqb}
 use Rattle.paper.specs.Bytes.{Bytes, if_then_else_}
 use Rattle.grammar.specs.declared.Head.{Head}
-use Rattle.grammar.specs.Checking.{head, code-end}
+use Rattle.grammar.specs.Heads.{head, code-end}
 use Rattle.machine.specs.declared.Plan.{Plan}
 
 -- by what the whole string begins with; a code stands alone where no mark parts the string

@@ -1,19 +1,21 @@
 // One code, and one element through all codes: the steps counted, each within what is left of the budget (document 01, "Steps").
+use crate::Meter;
 use crate::Plan;
 use crate::Ran;
-use crate::Step;
-use crate::giving;
-use crate::settling;
-use crate::slots;
-use crate::stepping;
+use crate::Stretch;
 use codes::Conversion;
 use grammar::Head;
 use grammar::ReadElm;
 use grammar::ReadHead;
 use paper::Given;
-use paper::refusal;
+use stack::Charge;
+use stack::Step;
+use stack::charging;
+use stack::slots;
+use steps::Position;
+use steps::giving;
+use steps::stepping;
 ghost use mathlib.Core.Path.{_≡_};
-ghost use mathlib.Core.List.{[]};
 ghost use Prim.Native.Nat.{_-_, _≤_};
 ghost use lib.ListN.{length};
 ghost use Rattle.paper.specs.Sizes.{entry-most, stack-most, value-mark};
@@ -21,14 +23,28 @@ ghost use Rattle.paper.specs.Refusals.{given};
 ghost use Rattle.paper.specs.Answers.{length-in};
 ghost use Rattle.paper.specs.Records.{split};
 ghost use Rattle.paper.specs.Checking.{judged, judged-all, check};
-ghost use Rattle.paper.specs.Converting.{within-budget};
-ghost use Rattle.grammar.specs.Checking.{elms-from};
-ghost use Rattle.codes.specs.Meaning.{conversion-of};
-ghost use Rattle.machine.specs.Bounds.{Conversion-within};
-ghost use Rattle.machine.specs.Slots.{element-slot, entry-at, Slotted, Lent};
-ghost use Rattle.machine.specs.Stepping.{taken-one, converted-on, handed, setting-of};
+ghost use Rattle.grammar.specs.Heads.{elms-from};
+ghost use Rattle.steps.specs.Bounds.{Conversion-within};
+ghost use Rattle.stack.specs.Slots.{entry-at, Slotted, Lent};
+ghost use Rattle.stack.specs.Charging.{taken-most, handed};
 ghost use Rattle.machine.specs.Plans.{plan-of};
-ghost use Rattle.machine.specs.Runs.{Runs, answered, read-run, Stacks, converting, judged-run, Judged-well, checked-run, Accepted};
+ghost use Rattle.machine.specs.Runs.{
+  Counted,
+  metered,
+  answered,
+  Runs,
+  Stretches,
+  stopped-as,
+  elms-outcome,
+  function-outcome,
+  converting,
+  single-outcome,
+  code-outcome,
+  codes-outcome,
+  Stacks,
+  Judged-well,
+  Accepted,
+};
 
 // "An F code's answer is the top entry."
 fn answer(held: usize, steps: u64, scratch: &mut [u8], lens: &mut [usize]) -> Ran
@@ -39,147 +55,166 @@ fn answer(held: usize, steps: u64, scratch: &mut [u8], lens: &mut [usize]) -> Ra
     Ran::Done { steps }
 }
 
-// The elms of an F code from a place on: "F starts with an empty stack."
-fn function<'a>(
+// The elms of an F code from a place on, from an empty stack to the one that they leave.
+fn run_elms<'a>(
     item: &'a [u8],
     code: &'a [u8],
     first: usize,
-    v: u64,
-    s: u64,
-    budget: u64,
-    from: u64,
+    place: Position,
+    meter: Meter,
     scratch: &mut [u8],
     lens: &mut [usize],
     work: &mut [u8],
-) -> Ran
-    requires { ⌜ Lent (now item) (now scratch) (now lens) (now work) × (first ≤ length (now code)) × (from ≤ budget) × Stacks (elms-from (now code) first) 0 ⌝ }
-    ensures { λ r. ⌜ Runs (within-budget budget from (read-run (setting-of (now (item .entry)) v s (now (scratch .entry)) (now (lens .entry))) (elms-from (now (code .entry)) first) [])) r (now (scratch .exit)) (now (lens .exit)) ⌝ }
+) -> Stretch
+    requires { ⌜ Lent (now item) (now scratch) (now lens) (now work) × (first ≤ length (now code)) × Counted meter × Stacks (elms-from (now code) first) 0 ⌝ }
+    ensures { λ r. ⌜ Stretches (elms-outcome (now (item .entry)) (now (code .entry)) first place meter (now (scratch .entry)) (now (lens .entry)))
+        r (now (scratch .exit)) (now (lens .exit)) ⌝ }
 {
     let mut at = first;
     let mut held = 0;
-    let mut steps = from;
+    let mut steps = meter.steps;
     loop {
         let read = grammar::elms::elm(code, at);
         let ReadElm::Elm { elm, next } = read else {
             let number = read.refusal();
-            return Ran::Stopped { number, steps };
+            return Stretch::Stopped { number, steps };
         };
-        let left = budget - steps;
-        let taken = stepping::step(item, code, elm, v, s, held, left, scratch, lens, work);
+        let left = meter.budget - steps;
+        let taken = stepping::step(item, code, elm, place, held, left, scratch, lens, work);
         let Step::Done { cost, held: after } = taken else {
             let number = taken.refusal();
-            return Ran::Stopped { number, steps };
+            return Stretch::Stopped { number, steps };
         };
         held = after;
         steps += cost;
         if next == code.len() {
-            return answer(held, steps, scratch, lens);
+            return Stretch::Done { held, steps };
         }
         at = next + 1;
     }
 }
 
+// The refusal of an elm, passed up with the steps counted before it.
+fn stopped(stretch: Stretch) -> Ran
+    ensures { λ r. ⌜ r ≡ stopped-as stretch ⌝ }
+{
+    match stretch {
+        Stretch::Done { held: _, steps } => Ran::Stopped { number: 0, steps },
+        Stretch::Stopped { number, steps } => Ran::Stopped { number, steps },
+    }
+}
+
+// An F code: "F starts with an empty stack."
+fn function<'a>(
+    item: &'a [u8],
+    code: &'a [u8],
+    first: usize,
+    place: Position,
+    meter: Meter,
+    scratch: &mut [u8],
+    lens: &mut [usize],
+    work: &mut [u8],
+) -> Ran
+    requires { ⌜ Lent (now item) (now scratch) (now lens) (now work) × (first ≤ length (now code)) × Counted meter × Stacks (elms-from (now code) first) 0 ⌝ }
+    ensures { λ r. ⌜ Runs (function-outcome (now (item .entry)) (now (code .entry)) first place meter (now (scratch .entry)) (now (lens .entry)))
+        r (now (scratch .exit)) (now (lens .exit)) ⌝ }
+{
+    let stretch = run_elms(item, code, first, place, meter, scratch, lens, work);
+    let Stretch::Done { held, steps } = stretch else {
+        return stopped(stretch);
+    };
+    answer(held, steps, scratch, lens)
+}
+
 // Bytes in the element's slot, by a step that takes so many bytes: 15 if its cost is over what is left of the budget.
-fn settle_element(
+fn charge_element(
     bytes: &[u8],
     taken: u64,
-    budget: u64,
-    steps: u64,
+    meter: Meter,
     scratch: &mut [u8],
     lens: &mut [usize],
 ) -> Ran
-    requires { ⌜ Slotted (now scratch) (now lens) × (length (now bytes) ≤ entry-most) × (taken ≤ entry-most) × (steps ≤ budget) ⌝ }
-    ensures { λ r. ⌜ Runs (within-budget budget steps (converting taken (given (now (bytes .entry))))) r (now (scratch .exit)) (now (lens .exit)) ⌝ }
+    requires { ⌜ Slotted (now scratch) (now lens) × (length (now bytes) ≤ entry-most) × (taken ≤ taken-most) × Counted meter ⌝ }
+    ensures { λ r. ⌜ Runs (metered meter (converting taken (given (now (bytes .entry))))) r (now (scratch .exit)) (now (lens .exit)) ⌝ }
 {
-    let cost = 1 + taken + bytes.len() as u64;
-    if cost <= budget - steps {
-        slots::put(bytes, scratch, lens, slots::ELEMENT);
-        Ran::Done {
-            steps: steps + cost,
-        }
-    } else {
-        Ran::Stopped {
-            number: refusal::OVER_BUDGET,
-            steps,
-        }
+    let steps = meter.steps;
+    let charged = charging::charge(taken, bytes.len() as u64, meter.budget - steps);
+    let Charge::Cost(cost) = charged else {
+        let number = charged.refusal();
+        return Ran::Stopped { number, steps };
+    };
+    slots::put(bytes, scratch, lens, slots::ELEMENT);
+    Ran::Done {
+        steps: steps + cost,
     }
 }
 
 // What the code gave, in front of the work buffer; its own refusal first.
-fn settle_code(
+fn charge_code(
     answer: Given,
     taken: u64,
-    budget: u64,
-    steps: u64,
+    meter: Meter,
     work: &[u8],
     scratch: &mut [u8],
     lens: &mut [usize],
 ) -> Ran
-    requires { ⌜ Slotted (now scratch) (now lens) × (taken ≤ entry-most) × (steps ≤ budget) ⌝ }
+    requires { ⌜ Slotted (now scratch) (now lens) × (taken ≤ taken-most) × Counted meter ⌝ }
     requires { ⌜ (length-in answer ≤ entry-most) × (entry-most ≤ length (now work)) ⌝ }
-    ensures { λ r. ⌜ Runs (within-budget budget steps (converting taken (handed answer (now (work .entry))))) r (now (scratch .exit)) (now (lens .exit)) ⌝ }
+    ensures { λ r. ⌜ Runs (metered meter (converting taken (handed answer (now (work .entry))))) r (now (scratch .exit)) (now (lens .exit)) ⌝ }
 {
     let Given::Length(n) = answer else {
         return Ran::Stopped {
-            number: settling::refused(answer),
-            steps,
+            number: charging::refused(answer),
+            steps: meter.steps,
         };
     };
-    settle_element(&work[0..n], taken, budget, steps, scratch, lens)
+    charge_element(&work[0..n], taken, meter, scratch, lens)
 }
 
 // One code other than F, on the element in its slot.
 fn single(
     conversion: Conversion,
-    budget: u64,
-    steps: u64,
+    code: &[u8],
+    meter: Meter,
     scratch: &mut [u8],
     lens: &mut [usize],
     work: &mut [u8],
 ) -> Ran
-    requires { ⌜ Slotted (now scratch) (now lens) × (entry-most ≤ length (now work)) × (steps ≤ budget) × Conversion-within conversion ⌝ }
-    ensures { λ r. ⌜ Runs (within-budget budget steps (converting (taken-one (now (scratch .entry)) (now (lens .entry)) element-slot) (converted-on (conversion-of conversion) (now (scratch .entry)) (now (lens .entry)) element-slot))) r (now (scratch .exit)) (now (lens .exit)) ⌝ }
+    requires { ⌜ Slotted (now scratch) (now lens) × (entry-most ≤ length (now work)) × Counted meter × Conversion-within (now code) conversion ⌝ }
+    ensures { λ r. ⌜ Runs (single-outcome (now (code .entry)) conversion meter (now (scratch .entry)) (now (lens .entry)))
+        r (now (scratch .exit)) (now (lens .exit)) ⌝ }
 {
     let element = slots::entry(&*scratch, &*lens, slots::ELEMENT);
     let taken = element.len() as u64;
-    let answer = giving::give(conversion, element, work);
-    settle_code(answer, taken, budget, steps, &*work, scratch, lens)
+    let answer = giving::give(conversion, code, element, work);
+    charge_code(answer, taken, meter, &*work, scratch, lens)
 }
 
 // One code, without the marks around it, on the element in its slot.
 fn run_code<'a>(
     item: &'a [u8],
     code: &'a [u8],
-    v: u64,
-    s: u64,
-    budget: u64,
-    steps: u64,
+    place: Position,
+    meter: Meter,
     scratch: &mut [u8],
     lens: &mut [usize],
     work: &mut [u8],
 ) -> Ran
-    requires { ⌜ Lent (now item) (now scratch) (now lens) (now work) × (steps ≤ budget) × Judged-well (judged (now code)) ⌝ }
-    ensures { λ r. ⌜ Runs (within-budget budget steps (judged-run (setting-of (now (item .entry)) v s (now (scratch .entry)) (now (lens .entry))) (judged (now (code .entry))))) r (now (scratch .exit)) (now (lens .exit)) ⌝ }
+    requires { ⌜ Lent (now item) (now scratch) (now lens) (now work) × Counted meter × Judged-well (judged (now code)) ⌝ }
+    ensures { λ r. ⌜ Runs (code-outcome (now (item .entry)) (judged (now (code .entry))) place meter (now (scratch .entry)) (now (lens .entry)))
+        r (now (scratch .exit)) (now (lens .exit)) ⌝ }
 {
-    let read = grammar::checking::head(code);
+    let read = grammar::heads::head(code);
     let ReadHead::Head(head) = read else {
         let number = read.refusal();
-        return Ran::Stopped { number, steps };
+        return Ran::Stopped {
+            number,
+            steps: meter.steps,
+        };
     };
     match head {
-        Head::Function { first } => function(
-            item,
-            code,
-            first,
-            v,
-            s,
-            budget,
-            steps,
-            scratch,
-            lens,
-            work,
-        ),
-        Head::Single(conversion) => single(conversion, budget, steps, scratch, lens, work),
+        Head::Function { first } => function(item, code, first, place, meter, scratch, lens, work),
+        Head::Single(conversion) => single(conversion, code, meter, scratch, lens, work),
     }
 }
 
@@ -187,13 +222,13 @@ fn run_code<'a>(
 pub fn plan(string: &[u8]) -> Plan
     ensures { λ r. ⌜ r ≡ plan-of (now (string .entry)) ⌝ }
 {
-    let ReadHead::Head(head) = grammar::checking::head(string) else {
+    let ReadHead::Head(head) = grammar::heads::head(string) else {
         return Plan::Codes;
     };
     let Head::Single(conversion) = head else {
         return Plan::Codes;
     };
-    if grammar::checking::code_end(string, 0) == string.len() {
+    if grammar::heads::code_end(string, 0) == string.len() {
         Plan::Single(conversion)
     } else {
         Plan::Codes
@@ -204,23 +239,26 @@ pub fn plan(string: &[u8]) -> Plan
 fn run_parts<'a>(
     item: &'a [u8],
     string: &'a [u8],
-    v: u64,
-    s: u64,
-    budget: u64,
-    from: u64,
+    place: Position,
+    meter: Meter,
     scratch: &mut [u8],
     lens: &mut [usize],
     work: &mut [u8],
 ) -> Ran
-    requires { ⌜ Lent (now item) (now scratch) (now lens) (now work) × (from ≤ budget) × Accepted (judged-all 1 (split value-mark (now string))) ⌝ }
-    ensures { λ r. ⌜ Runs (within-budget budget from (checked-run (now (item .entry)) v s (judged-all 1 (split value-mark (now (string .entry)))) (entry-at (now (scratch .entry)) (now (lens .entry)) element-slot))) r (now (scratch .exit)) (now (lens .exit)) ⌝ }
+    requires { ⌜ Lent (now item) (now scratch) (now lens) (now work) × Counted meter × Accepted (judged-all 1 (split value-mark (now string))) ⌝ }
+    ensures { λ r. ⌜ Runs (codes-outcome (now (item .entry)) (judged-all 1 (split value-mark (now (string .entry)))) place meter
+        (now (scratch .entry)) (now (lens .entry))) r (now (scratch .exit)) (now (lens .exit)) ⌝ }
 {
     let mut at = 0;
-    let mut steps = from;
+    let mut steps = meter.steps;
     loop {
-        let end = grammar::checking::code_end(string, at);
+        let end = grammar::heads::code_end(string, at);
         let code = &string[at..end];
-        let ran = run_code(item, code, v, s, budget, steps, scratch, lens, work);
+        let so_far = Meter {
+            budget: meter.budget,
+            steps,
+        };
+        let ran = run_code(item, code, place, so_far, scratch, lens, work);
         let Ran::Done { steps: counted } = ran else {
             return ran;
         };
@@ -237,41 +275,40 @@ fn run_planned<'a>(
     item: &'a [u8],
     string: &'a [u8],
     plan: Plan,
-    v: u64,
-    s: u64,
-    budget: u64,
-    steps: u64,
+    place: Position,
+    meter: Meter,
     scratch: &mut [u8],
     lens: &mut [usize],
     work: &mut [u8],
 ) -> Ran
-    requires { ⌜ Lent (now item) (now scratch) (now lens) (now work) × (steps ≤ budget) × Accepted (judged-all 1 (split value-mark (now string))) × (plan ≡ plan-of (now string)) ⌝ }
-    ensures { λ r. ⌜ Runs (within-budget budget steps (checked-run (now (item .entry)) v s (judged-all 1 (split value-mark (now (string .entry)))) (entry-at (now (scratch .entry)) (now (lens .entry)) element-slot))) r (now (scratch .exit)) (now (lens .exit)) ⌝ }
+    requires { ⌜ Lent (now item) (now scratch) (now lens) (now work) × Counted meter × (plan ≡ plan-of (now string)) ⌝ }
+    requires { ⌜ Accepted (judged-all 1 (split value-mark (now string))) ⌝ }
+    ensures { λ r. ⌜ Runs (codes-outcome (now (item .entry)) (judged-all 1 (split value-mark (now (string .entry)))) place meter
+        (now (scratch .entry)) (now (lens .entry))) r (now (scratch .exit)) (now (lens .exit)) ⌝ }
 {
     match plan {
-        Plan::Single(conversion) => single(conversion, budget, steps, scratch, lens, work),
-        Plan::Codes => run_parts(item, string, v, s, budget, steps, scratch, lens, work),
+        Plan::Single(conversion) => single(conversion, string, meter, scratch, lens, work),
+        Plan::Codes => run_parts(item, string, place, meter, scratch, lens, work),
     }
 }
 
-// The element in its slot through all codes of an accepted string, by the string's plan.
+// The element in its slot through all codes of a string that was accepted.
 pub fn run_codes<'a>(
     item: &'a [u8],
     string: &'a [u8],
     plan: Plan,
-    v: u64,
-    s: u64,
-    budget: u64,
-    steps: u64,
+    place: Position,
+    meter: Meter,
     scratch: &mut [u8],
     lens: &mut [usize],
     work: &mut [u8],
 ) -> Ran
-    requires { ⌜ Lent (now item) (now scratch) (now lens) (now work) × (steps ≤ budget) × Accepted (check (now string)) × (plan ≡ plan-of (now string)) ⌝ }
-    ensures { λ r. ⌜ Runs (within-budget budget steps (checked-run (now (item .entry)) v s (check (now (string .entry))) (entry-at (now (scratch .entry)) (now (lens .entry)) element-slot))) r (now (scratch .exit)) (now (lens .exit)) ⌝ }
+    requires { ⌜ Lent (now item) (now scratch) (now lens) (now work) × Counted meter × Accepted (check (now string)) × (plan ≡ plan-of (now string)) ⌝ }
+    ensures { λ r. ⌜ Runs (codes-outcome (now (item .entry)) (check (now (string .entry))) place meter (now (scratch .entry)) (now (lens .entry)))
+        r (now (scratch .exit)) (now (lens .exit)) ⌝ }
 {
     if string.len() == 0 {
-        return Ran::Done { steps };
+        return Ran::Done { steps: meter.steps };
     }
-    run_planned(item, string, plan, v, s, budget, steps, scratch, lens, work)
+    run_planned(item, string, plan, place, meter, scratch, lens, work)
 }

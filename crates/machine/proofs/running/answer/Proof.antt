@@ -1,7 +1,7 @@
 -- `machine::running::answer` meets its contract: the top entry goes into the element's slot.
 use borrow.Author.Needs.{needs}
 use native.Mathlib.Omega.{arith}
-use Rattle.machine.proofs.Laws.{entry-fits}
+use Rattle.stack.proofs.Putting.{entry-fits}
 use Rattle.machine.proofs.Turns.{runs-answered}
 use Rattle.machine.proofs.running.answer.Statement.{statement}
 use Rattle.machine.proofs.running.answer.Tie as tie

@@ -6,10 +6,9 @@ use native.Mathlib.Omega.{arith}
 use denote.Ref.{now}
 use Rattle.paper.specs.Bytes.{Bytes}
 use Rattle.paper.specs.Steps.{Run}
-use Rattle.paper.specs.Converting.{within-budget}
 use Rattle.grammar.proofs.Answering.{heads, read-is}
-use Rattle.grammar.proofs.Judging.{head-first}
-use Rattle.machine.specs.Stepping.{setting-of}
+use Rattle.grammar.proofs.HeadReads.{head-first}
+use Rattle.machine.specs.Runs.{metered}
 use Rattle.machine.proofs.Turns.{runs-as}
 use Rattle.machine.proofs.CodeRuns.{function-code, single-code, single-within, bad-code}
 use Rattle.machine.proofs.running.run_code.Statement.{statement}
@@ -22,40 +21,29 @@ returns c =
 
 function-requires : tie.Need-function-requires
 function-requires c κs =
-    let headed = c .before .before .before .before .before .before .before .before .before in
-    let start = headed .before .before .before .before .before .before in
-    let code = now (start .args .code) in
-    let is = read-is heads (headed .head .ensures) (c .before .before .before .before .before .before .before .read .given .1) ∙ ap some (c .before .before .before .before .head2 .given .1) in
-    (start .pre .0, omega (arith, head-first code _ is), start .pre .1, function-code code (start .pre .2) is .0)
+    let start = c .before .before .before .before .before .before .before .before .before .before .before .before .before .before .before in
+    let is = read-is heads (c .before .before .before .before .before .before .before .before .before .head .ensures) (c .before .before .before .before .before .before .before .read .given .1) ∙ ap some (c .before .before .before .before .head2 .given .1) in
+    (start .pre .0, omega (arith, head-first (now (start .args .code)) _ is), start .pre .1, function-code (now (start .args .code)) (start .pre .2) is .0)
 
 single-requires : tie.Need-single-requires
 single-requires c κs =
-    let headed = c .before .before .before .before .before .before .before .before .before in
-    let start = headed .before .before .before .before .before .before in (
-      start .pre .0 .slotted,
-      start .pre .0 .work-fits,
-      start .pre .1,
-      single-within (now (start .args .code)) (read-is heads (headed .head .ensures) (c .before .before .before .before .before .before .before .read .given .1) ∙ ap some (c .before .before .before .before .head3 .given .1)),
-    )
+    let start = c .before .before .before .before .before .before .before .before .before .before .before .before .before .before .before in
+    (start .pre .0 .slotted, start .pre .0 .work-fits, start .pre .1, single-within (now (start .args .code)) (read-is heads (c .before .before .before .before .before .before .before .before .before .head .ensures) (c .before .before .before .before .before .before .before .read .given .1) ∙ ap some (c .before .before .before .before .head3 .given .1)))
 
 returns-2 : tie.Need-returns-2
 returns-2 c =
-    let headed = c .before .before .before .before .before .before .before .before .before .before .before .before .before .before .before .before in
-    let start = headed .before .before .before .before .before .before in
-    let a = start .args in
+    let start = c .before .before .before .before .before .before .before .before .before .before .before .before .before .before .before .before .before .before .before .before .before .before in
+    let is = read-is heads (c .before .before .before .before .before .before .before .before .before .before .before .before .before .before .before .before .head .ensures) (c .before .before .before .before .before .before .before .before .before .before .before .before .before .before .read .given .1) ∙ ap some (c .before .before .before .before .before .before .before .before .before .before .before .head2 .given .1) in
     runs-as
-    (ap (λ (r : Run Bytes). within-budget (a .budget) (a .steps) r)
-    (function-code (now (a .code)) (start .pre .2) (read-is heads (headed .head .ensures) (c .before .before .before .before .before .before .before .before .before .before .before .before .before .before .read .given .1) ∙ ap some (c .before .before .before .before .before .before .before .before .before .before .before .head2 .given .1)) .1 (setting-of (now (a .item)) (a .v) (a .s) (now (a .scratch)) (now (a .lens)))))
+    (ap (λ (r : Run Bytes). metered (start .args .meter) r) (function-code (now (start .args .code)) (start .pre .2) is .1 _))
     (c .before .before .before .before .before .before .function .ensures)
 
 returns-3 : tie.Need-returns-3
 returns-3 c =
-    let headed = c .before .before .before .before .before .before .before .before .before .before .before .before .before .before .before .before in
-    let start = headed .before .before .before .before .before .before in
-    let a = start .args in
+    let start = c .before .before .before .before .before .before .before .before .before .before .before .before .before .before .before .before .before .before .before .before .before .before in
+    let is = read-is heads (c .before .before .before .before .before .before .before .before .before .before .before .before .before .before .before .before .head .ensures) (c .before .before .before .before .before .before .before .before .before .before .before .before .before .before .read .given .1) ∙ ap some (c .before .before .before .before .before .before .before .before .before .before .before .head3 .given .1) in
     runs-as
-    (ap (λ (r : Run Bytes). within-budget (a .budget) (a .steps) r)
-    (single-code (now (a .code)) (start .pre .2) (read-is heads (headed .head .ensures) (c .before .before .before .before .before .before .before .before .before .before .before .before .before .before .read .given .1) ∙ ap some (c .before .before .before .before .before .before .before .before .before .before .before .head3 .given .1)) (setting-of (now (a .item)) (a .v) (a .s) (now (a .scratch)) (now (a .lens)))))
+    (ap (λ (r : Run Bytes). metered (start .args .meter) r) (single-code (now (start .args .code)) (start .pre .2) is _))
     (c .before .before .before .before .before .before .single .ensures)
 
 pub run-code-spec : {M : Type 1} → statement M

@@ -3,28 +3,28 @@ use borrow.Author.Needs.{needs}
 use mathlib.Core.Path.{ap}
 use denote.Ref.{now}
 use Rattle.paper.specs.Checking.{Checked}
-use Rattle.paper.specs.Converting.{within-budget}
-use Rattle.machine.specs.Slots.{element-slot, entry-at}
-use Rattle.machine.specs.Runs.{checked-run}
+use Rattle.machine.specs.Runs.{codes-outcome}
 use Rattle.machine.proofs.Turns.{runs-as}
 use Rattle.machine.proofs.Parts.{no-codes, checked-parts}
 use Rattle.machine.proofs.running.run_codes.Statement.{statement}
 use Rattle.machine.proofs.running.run_codes.Tie as tie
 
 returns : tie.Need-returns
-returns c = let start = c .before .before .before .before .before .before in no-codes _ _ _ _ _ _ (start .pre .0 .slotted) (c .if1 .taken)
+returns c = let start = c .before .before .before .before .before .before in no-codes _ _ _ _ (start .pre .0 .slotted) (c .if1 .taken)
 
 run-planned-requires : tie.Need-run-planned-requires
 run-planned-requires c κs =
-    let start = c .before .before .before .before .before .before .before .before .before in
-    (start .pre .0, start .pre .1, rw (checked-parts (now (start .args .string)) (start .pre .2) (c .before .before .before .if1 .left)) at (start .pre .2), start .pre .3)
+    let start = c .before .before .before .before .before .before .before .before .before in (
+      (start .pre .0, start .pre .1, start .pre .3),
+      rw (checked-parts (now (start .args .string)) (start .pre .2) (c .before .before .before .if1 .left)) at (start .pre .2),
+    )
 
 returns-2 : tie.Need-returns-2
 returns-2 c =
     let start = c .before .before .before .before .before .before .before .before .before .before .before .before .before .before .before .before in
     let a = start .args in
     runs-as
-    (ap (λ (x : Checked). within-budget (a .budget) (a .steps) (checked-run (now (a .item)) (a .v) (a .s) x (entry-at (now (a .scratch)) (now (a .lens)) element-slot)))
+    (ap (λ (x : Checked). codes-outcome (now (a .item)) x (a .place) (a .meter) (now (a .scratch)) (now (a .lens)))
     (checked-parts (now (a .string)) (start .pre .2) (c .before .before .before .before .before .before .before .before .before .before .if1 .left)))
     (c .before .before .before .before .before .before .run-planned .ensures)
 

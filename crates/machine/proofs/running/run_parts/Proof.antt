@@ -9,62 +9,54 @@ use Rattle.machine.proofs.running.run_parts.Statement.{statement}
 use Rattle.machine.proofs.running.run_parts.Tie as tie
 
 abbrev Inv-loop : tie.InvT-loop
-Inv-loop item string v s budget from scratch₀ lens₀ work₀ at₀ steps₀ scratch lens work at steps =
-    Part item string v s budget from scratch₀ lens₀ at steps scratch lens work
+Inv-loop item string position meter scratch₀ lens₀ work₀ at₀ steps₀ scratch lens work at steps =
+    Part item string position meter scratch₀ lens₀ at steps scratch lens work
     × (length scratch ≡ length scratch₀)
     × (length lens ≡ length lens₀)
     × (length work ≡ length work₀)
 
 abbrev μ-loop : tie.MeasureT-loop
-μ-loop item string v s budget from scratch₀ lens₀ work₀ at₀ steps₀ scratch lens work at steps = length string - at
+μ-loop item string position meter scratch₀ lens₀ work₀ at₀ steps₀ scratch lens work at steps = length string - at
 
 loop-holds : tie.Need-loop-holds Inv-loop μ-loop
 loop-holds c =
     let start = c .before .before .before .before .before in
-    (part-first _ _ _ _ _ _ _ _ (start .pre .0) (start .pre .1) (start .pre .2), refl, refl, refl)
+    (part-first _ _ _ _ _ _ (start .pre .0) (start .pre .1) (start .pre .2), refl, refl, refl)
 
 sub-code : tie.Need-sub-code Inv-loop μ-loop
-sub-code c = part-ends _ _ _ _ _ _ _ _ (c .before .loop .inv .0) (c .code-end .ensures) .0
+sub-code c = part-ends _ _ _ _ _ _ (c .before .loop .inv .0) (c .code-end .ensures) .0
 
 part-code-start : tie.Need-part-code-start Inv-loop μ-loop
-part-code-start c = part-ends _ _ _ _ _ _ _ _ (c .before .loop .inv .0) (c .code-end .ensures) .0
+part-code-start c = part-ends _ _ _ _ _ _ (c .before .loop .inv .0) (c .code-end .ensures) .0
 
 part-code-end : tie.Need-part-code-end Inv-loop μ-loop
-part-code-end c = part-ends _ _ _ _ _ _ _ _ (c .before .loop .inv .0) (c .code-end .ensures) .1
+part-code-end c = part-ends _ _ _ _ _ _ (c .before .loop .inv .0) (c .code-end .ensures) .1
 
 run-code-requires : tie.Need-run-code-requires Inv-loop μ-loop
 run-code-requires c κs =
     let part = c .before .before .before .before .before .loop .inv .0 in
-    (part .lent, part .counted, part-well _ _ _ _ _ _ _ _ part (c .before .before .before .before .code-end .ensures))
+    (part .lent, part .counted, part-well _ _ _ _ _ _ part (c .before .before .before .before .code-end .ensures))
 
 returns : tie.Need-returns Inv-loop μ-loop
-returns c =
-    let ran = c .before .before .before .before .before .before .before .before in
-    part-stops _ _ _ _ _ _ _ _ (ran .before .before .before .before .before .before .loop .inv .0) (ran .before .before .before .before .before .code-end .ensures) (ran .run-code .ensures) (c .enum-told .given .1)
+returns c = part-stops _ _ _ _ _ _ (c .before .before .before .before .before .before .before .before .before .before .before .before .before .before .loop .inv .0) (c .before .before .before .before .before .before .before .before .before .before .before .before .before .code-end .ensures) (c .before .before .before .before .before .before .before .before .run-code .ensures) (c .enum-told .given .1)
 
 returns-2 : tie.Need-returns-2 Inv-loop μ-loop
-returns-2 c =
-    let ran = c .before .before .before .before .before .before .before .before .before .before in
-    part-last _ _ _ _ _ _ _ _ (ran .before .before .before .before .before .before .loop .inv .0) (ran .before .before .before .before .before .code-end .ensures) (ran .run-code .ensures) (c .before .before .ran .given .1) (c .if1 .taken)
+returns-2 c = part-last _ _ _ _ _ _ (c .before .before .before .before .before .before .before .before .before .before .before .before .before .before .before .before .loop .inv .0) (c .before .before .before .before .before .before .before .before .before .before .before .before .before .before .before .code-end .ensures) (c .before .before .before .before .before .before .before .before .before .before .run-code .ensures) (c .before .before .ran .given .1) (c .if1 .taken)
 
 add-at : tie.Need-add-at Inv-loop μ-loop
-add-at c =
-    let ended = c .before .before .before .before .before .before .before .before .before .before .before .before .before .before .before in
-    omega (arith, part-ends _ _ _ _ _ _ _ _ (ended .before .loop .inv .0) (ended .code-end .ensures), c .before .before .before .before .before .before .before .before .before .before .before .before .before .before .before .before .before .before .before .before .before .before .good)
+add-at c = omega (arith, part-ends _ _ _ _ _ _ (c .before .before .before .before .before .before .before .before .before .before .before .before .before .before .before .before .loop .inv .0) (c .before .before .before .before .before .before .before .before .before .before .before .before .before .before .before .code-end .ensures), c .before .before .before .before .before .before .before .before .before .before .before .before .before .before .before .before .before .before .before .before .before .before .good)
 
 loop-less : tie.Need-loop-less Inv-loop μ-loop
-loop-less c =
-    let ended = c .before .before .before .before .before .before .before .before .before .before .before .before .before .before .before in
-    omega (arith, part-ends _ _ _ _ _ _ _ _ (ended .before .loop .inv .0) (ended .code-end .ensures))
+loop-less c = omega (arith, part-ends _ _ _ _ _ _ (c .before .before .before .before .before .before .before .before .before .before .before .before .before .before .before .before .loop .inv .0) (c .before .before .before .before .before .before .before .before .before .before .before .before .before .before .before .code-end .ensures))
 
 loop-again : tie.Need-loop-again Inv-loop μ-loop
 loop-again c =
-    let ran = c .before .before .before .before .before .before .before .before .before .before in
-    let before = ran .before .before .before .before .before .before .loop .inv in (
-      part-more _ _ _ _ _ _ _ _ (before .0) (ran .before .before .before .before .before .code-end .ensures) (ran .run-code .ensures) (c .before .before .ran .given .1) (ran .run-code .kept .1 .1 .1 .1 .1 .1 .1 .1 .0) (c .if1 .left),
-      ran .run-code .kept .1 .1 .1 .1 .1 .1 .0 ∙ before .1,
-      ran .run-code .kept .1 .1 .1 .1 .1 .1 .1 .0 ∙ before .2,
-      ran .run-code .kept .1 .1 .1 .1 .1 .1 .1 .1 .0 ∙ before .3,
+    let here = c .before .before .before .before .before .before .before .before .before .before .before .before .before .before .before .before .loop .inv in
+    let ran = c .before .before .before .before .before .before .before .before .before .before .run-code in (
+      part-more _ _ _ _ _ _ (here .0) (c .before .before .before .before .before .before .before .before .before .before .before .before .before .before .before .code-end .ensures) (ran .ensures) (c .before .before .ran .given .1) (ran .kept .1 .1 .1 .1 .1 .1 .0) (c .if1 .left),
+      ran .kept .1 .1 .1 .1 .0 ∙ here .1,
+      ran .kept .1 .1 .1 .1 .1 .0 ∙ here .2,
+      ran .kept .1 .1 .1 .1 .1 .1 .0 ∙ here .3,
     )
 
 pub run-parts-spec : {M : Type 1} → statement M

@@ -5,35 +5,33 @@ use native.Mathlib.Omega.{arith}
 use Rattle.paper.specs.Bytes.{Bytes}
 use Rattle.paper.specs.Sizes.{entry-most}
 use Rattle.paper.specs.Steps.{Run}
-use Rattle.paper.specs.Converting.{within-budget}
-use Rattle.machine.proofs.Laws.{entry-read}
-use Rattle.machine.proofs.Effects.{gave-fits}
+use Rattle.stack.proofs.Putting.{entry-read}
+use Rattle.stack.proofs.Charges.{gave-fits}
+use Rattle.machine.specs.Runs.{metered}
 use Rattle.machine.proofs.Turns.{runs-as}
-use Rattle.machine.proofs.CodeRuns.{single-gave}
+use Rattle.machine.proofs.CodeRuns.{single-gave, entry-takes}
 use Rattle.machine.proofs.running.single.Statement.{statement}
 use Rattle.machine.proofs.running.single.Tie as tie
 
 give-requires : tie.Need-give-requires
 give-requires c κs =
-    let start = c .before .before .before .before .before .before .before in
+    let start = c .before .before .before .before .before .before .before .before in
     (entry-read (start .pre .0) _ (omega arith) (c .before .entry .ensures), start .pre .1, start .pre .3)
 
-settle-code-requires : tie.Need-settle-code-requires
-settle-code-requires c κs =
+charge-code-requires : tie.Need-charge-code-requires
+charge-code-requires c κs =
     let gave = c .before .before .before .before .before in
-    let start = gave .before .before .before .before .before .before .before .before in (
-      (start .pre .0, entry-read (start .pre .0) _ (omega arith) (gave .before .before .entry .ensures), start .pre .2),
+    let start = c .before .before .before .before .before .before .before .before .before .before .before .before .before .before in (
+      (start .pre .0, entry-takes (entry-read (start .pre .0) _ (omega arith) (c .before .before .before .before .before .before .before .entry .ensures)), start .pre .2),
       (gave-fits entry-most _ (gave .give .ensures .0), omega (arith, start .pre .1, gave .give .kept)),
     )
 
 returns : tie.Need-returns
 returns c =
-    let settled = c .before .before .before .before in
-    let gave = settled .before .before .before .before .before .before in
-    let a = gave .before .before .before .before .before .before .before .before .args in
+    let a = c .before .before .before .before .before .before .before .before .before .before .before .before .before .before .before .before .before .before .before .args in
     runs-as
-    (ap (λ (r : Run Bytes). within-budget (a .budget) (a .steps) r) (single-gave _ _ _ _ (gave .before .before .entry .ensures) (gave .give .ensures)))
-    (settled .settle-code .ensures)
+    (ap (λ (r : Run Bytes). metered (a .meter) r) (single-gave _ _ _ _ (c .before .before .before .before .before .before .before .before .before .before .before .before .entry .ensures) (c .before .before .before .before .before .before .before .before .before .before .give .ensures)))
+    (c .before .before .before .before .charge-code .ensures)
 
 pub single-spec : {M : Type 1} → statement M
 single-spec =
@@ -41,7 +39,7 @@ single-spec =
     (tie.spec
     (λ c κs. search needs)
     give-requires
-    settle-code-requires
+    charge-code-requires
     (λ c. search needs)
     (λ c. search needs)
     (λ c. search needs)

@@ -1,0 +1,3 @@
+pub mod Putting
+pub mod Charges
+pub mod Settled

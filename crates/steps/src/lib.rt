@@ -1,0 +1,11 @@
+// One step of an F code, and what a code other than F gives on an element (document 01, "What each code gives" and "Steps").
+// Every statement is an equality with what crates/paper defines of the step.
+pub mod giving;
+mod loading;
+pub mod stepping;
+
+// The position of an element in its attribute: the value and the subvalue that a load in step with it reads.
+pub struct Position {
+    pub v: u64,
+    pub s: u64,
+}
