@@ -68,14 +68,6 @@ module _ (item string : Bytes) (a v s : ℕ) {room scratch : ℕ} {r : Converted
   abbrev outcome : Outcome
   outcome = convert item string a v s program-budget room scratch
 
-  pub refusal-short : r .number ≤ number-most
-  unfolding converted-of
-  refusal-short = omega (arith, ap (λ (x : Converted). x .number) e, converting-told item string a v s program-budget room scratch)
-
-  pub steps-short : r .steps ≤ number-most
-  unfolding converted-of
-  steps-short = omega (arith, ap (λ (x : Converted). x .steps) e, steps-within-budget item string a v s program-budget room scratch)
-
   length-is : r .length ≡ length (answer-of (outcome .answer))
   unfolding converted-of
   length-is = ap (λ (x : Converted). x .length) e
@@ -88,8 +80,14 @@ module _ (item string : Bytes) (a v s : ℕ) {room scratch : ℕ} {r : Converted
       let k : r .length - 0 ≡ length (answer-of (outcome .answer)) = omega (arith, length-is) in
       ap (λ (n : ℕ). take n out) k ∙ ap (take (length (answer-of (outcome .answer)))) f ∙ answer-in-front room outcome
 
-  pub answer-short : length (take (r .length - 0) out) ≤ record-most
-  answer-short = omega (arith, ap length answer-is, answer-fits item string a v s program-budget room scratch)
+  -- what `show` asks for
+  pub showable : (r .number ≤ number-most) × (r .steps ≤ number-most) × (length (take (r .length - 0) out) ≤ record-most)
+  unfolding converted-of
+  showable = (
+    omega (arith, ap (λ (x : Converted). x .number) e, converting-told item string a v s program-budget room scratch .0),
+    omega (arith, ap (λ (x : Converted). x .steps) e, steps-within-budget item string a v s program-budget room scratch),
+    omega (arith, ap length answer-is, answer-fits item string a v s program-budget room scratch),
+  )
 
   -- the line is the paper's
   pub line-is : {o : Option Address} → o ≡ some (record { a = a; v = v; s = s }) → shown (r .number) (r .steps) (take (r .length - 0) out) ≡ answered string item o

@@ -11,11 +11,10 @@ ghost use mathlib.Core.List.{map};
 ghost use Prim.Native.Nat.{_+_, _≤_};
 ghost use lib.ListN.{length, drop};
 ghost use Rattle.paper.specs.Sizes.{number-digits, number-most, record-most};
-ghost use Rattle.paper.specs.Grammar.{all-read};
-ghost use Rattle.paper.specs.Program.{drawn, program, answered, address-form};
+ghost use Rattle.paper.specs.Program.{drawn, program};
 ghost use Rattle.lent.specs.Over.{over};
 ghost use Rattle.lent.specs.Scan.{upto};
-ghost use Rattle.console.specs.Lines.{numbered, shown, line-most};
+ghost use Rattle.console.specs.Lines.{numbered, shown, responded, line-most};
 
 // "only 65,536 bytes are read"
 const READS: usize = 65_536;
@@ -65,8 +64,8 @@ fn show(refusal: u64, steps: u64, answer: &[u8], line: &mut [u8]) -> usize
 // "If line 2 is not three numbers .., it prints `4 0 ` and a line end, before any other refusal"
 fn respond<'a>(code: &'a [u8], address: &[u8], item: &'a [u8], line: &mut [u8]) -> usize
     requires { ⌜ line-most ≤ length (now line) ⌝ }
-    ensures { λ r. ⌜ r ≡ length (answered (now (code .entry)) (now (item .entry)) (all-read (address-form (now (address .entry))))) ⌝ }
-    ensures { λ _. ⌜ now (line .exit) ≡ over (now (line .entry)) 0 (answered (now (code .entry)) (now (item .entry)) (all-read (address-form (now (address .entry))))) ⌝ }
+    ensures { λ r. ⌜ r ≡ length (responded (now (code .entry)) (now (address .entry)) (now (item .entry))) ⌝ }
+    ensures { λ _. ⌜ now (line .exit) ≡ over (now (line .entry)) 0 (responded (now (code .entry)) (now (address .entry)) (now (item .entry))) ⌝ }
 {
     let read = grammar::addresses::address(address);
     let ReadAddress::Address { a, v, s } = read else {

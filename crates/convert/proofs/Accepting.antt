@@ -1,9 +1,9 @@
 -- A check that reports refusal 0 has accepted the string. Assumes nothing.
 use mathlib.Core.Path.{_≡_, refl}
 use Rattle.paper.specs.Bytes.{Bytes}
-use Rattle.paper.specs.Checking.{Checked, accepted, faulty, check, report}
+use Rattle.paper.specs.Checking.{Checked, accepted, faulty, check, codes-of, report}
 use Rattle.paper.proofs.Numbered.{faults-are-numbered}
-use Rattle.convert.specs.Running.{codes-of, codes-in, Accepts}
+use Rattle.convert.specs.Running.{codes-in, Accepts}
 
 pub accepts : (string : Bytes) → report (check string) .refusal ≡ 0 → Accepts string
 unfolding codes-in report

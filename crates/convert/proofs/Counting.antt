@@ -10,16 +10,18 @@ use lib.ListN.{length, drop, getD, drop-of-length-le}
 use lib.Seq.{drop-cons}
 use lib.Dec.{eqb, leb}
 use Rattle.paper.specs.Bytes.{Bytes, if_then_else_}
-use Rattle.paper.specs.Sizes.{record-most, scratch-least, value-mark, subvalue-mark, is-inner-mark}
+use Rattle.paper.specs.Sizes.{scratch-least, value-mark, subvalue-mark, is-inner-mark}
 use Rattle.paper.specs.Refusals.{Res, given, refused, _>>=_, _>>_, refuse_unless_, refusal-of, short-scratch}
 use Rattle.paper.specs.Records.{path, reads}
 use Rattle.paper.specs.Codes.{Code}
-use Rattle.paper.specs.Checking.{Checked, accepted, faulty, check, checked-codes, attribute-loads, other-steps, report}
-use Rattle.paper.specs.Converting.{Element, elements, lawful-place, lawful-code, ready, convert, ceiling}
-use Rattle.paper.proofs.Ceiling.{steps-within-ceiling}
-use Rattle.grammar.specs.Checking.{verdict-of}
-use Rattle.grammar.specs.declared.Verdict.{Verdict}
-use Rattle.grammar.proofs.Walking.{accepted-steps}
+use Rattle.paper.specs.Checking.{Checked, accepted, faulty, check, codes-of, checked-codes, codes-counts, attribute-loads, other-steps}
+use Rattle.paper.specs.Converting.{Element, elements, lawful-place, lawful-code, ready, convert, ceiling, counted-ceiling}
+use Rattle.paper.proofs.Ceiling.{steps-within-ceiling, ceiling-counted}
+use Rattle.judging.specs.Verdicts.{verdict-of}
+use Rattle.judging.specs.Tallies.{counts-in}
+use Rattle.judging.specs.declared.Verdict.{Verdict}
+use Rattle.judging.specs.declared.Counts.{Counts}
+use Rattle.judging.proofs.Walking.{accepted-steps}
 use Rattle.records.specs.Found.{lawful-find}
 use Rattle.convert.specs.Walk.{in-front, walked, inner-marks}
 use Rattle.convert.specs.Gather.{refused-at-once}
@@ -95,19 +97,20 @@ module _ (item string : Bytes) (a v s : ℕ) where
     code-uncapped n k e = rw (lawful, e)
 
     -- accepted: A and B are the verdict's, and m is one more than the marks
-    module _ {loads others n : ℕ} {verdict : Verdict} {text : Bytes} (accepts : verdict ≡ Verdict.Accepted loads others)
+    module _ {counts : Counts} {n : ℕ} {verdict : Verdict} {text : Bytes} (accepts : verdict ≡ Verdict.Accepted counts)
         (checked : verdict ≡ verdict-of (check string)) (read : text ≡ reads item (path a v s)) (counted : n ≡ inner-marks text) where
-      codes : (c : Checked) → check string ≡ c → (cs : List Code) × (check string ≡ accepted cs) × (attribute-loads cs ≡ loads) × (other-steps cs ≡ others)
-      unfolding verdict-of
+      codes : (c : Checked) → check string ≡ c → (cs : List Code) × (check string ≡ accepted cs) × (attribute-loads cs ≡ counts .loads) × (other-steps cs ≡ counts .others)
+      unfolding verdict-of attribute-loads other-steps
       codes (accepted cs) e =
-          let same : Verdict.Accepted (attribute-loads cs) (other-steps cs) ≡ Verdict.Accepted loads others = sym (ap verdict-of e) ∙ sym checked ∙ accepts in
-          (cs, e, cc, cc)
+          let same : Verdict.Accepted (counts-in (codes-counts cs)) ≡ Verdict.Accepted counts = sym (ap verdict-of e) ∙ sym checked ∙ accepts in
+          let told : counts-in (codes-counts cs) ≡ counts = cc in
+          (cs, e, ap (λ (k : Counts). k .loads) told, ap (λ (k : Counts). k .others) told)
       codes (faulty k l) e =
-          let not-so : Verdict.Refused k l ≡ Verdict.Accepted loads others = sym (ap verdict-of e) ∙ sym checked ∙ accepts in
+          let not-so : Verdict.Refused k l ≡ Verdict.Accepted counts = sym (ap verdict-of e) ∙ sym checked ∙ accepts in
           let z : _≡_ {A = ℕ} 0 1 = cc in
           absurd (omega arith)
 
-      pub figures : Figures (1 + n) loads others (length item)
+      pub figures : Figures (1 + n) (counts .loads) (counts .others) (length item)
       figures =
           let (cs, e, f, g) = codes (check string) refl in
           let numbers = lawful-numbers item a v s lawful in
@@ -122,19 +125,19 @@ module _ (item string : Bytes) (a v s : ℕ) where
           ap length (elements-walked item a v s (lawful-numbers item a v s lawful .whole)) ∙ walked-length _ _ _ _
           ∙ ap (λ (x : ℕ). 1 + x) (sym (counted ∙ ap inner-marks read))
 
-      pub capped : {most : ℕ} → most ≡ ceiling loads others (length item) (1 + n) → Bound.Most most ≡ ceiling-told (ceiling-of item string a v s)
+      pub capped : {most : ℕ} → most ≡ counted-ceiling (counts .loads) (counts .others) (length item) (1 + n) → Bound.Most most ≡ ceiling-told (ceiling-of item string a v s)
       unfolding lawful-find lawful-place ceiling-of ceiling-told checked-codes
-      capped h = let (cs, e, f, g) = codes (check string) refl in rw (lawful, e, f, g, elements-counted) (ap Bound.Most h)
+      capped h = let (cs, e, f, g) = codes (check string) refl in rw (lawful, e, ceiling-counted, f, g, elements-counted) (ap Bound.Most h)
 
 -- the ceiling beside the conversion itself
 module _ (item string : Bytes) (a v s budget room scratch : ℕ) where
   pub steps-capped : (n : ℕ) → ceiling-of item string a v s ≡ given n → convert item string a v s budget room scratch .steps ≤ n
-  unfolding ceiling-of checked-codes report
+  unfolding ceiling-of checked-codes
   steps-capped n e = omega (arith, go (lawful-place item a v s) (check string) e, steps-within-ceiling item string a v s budget room scratch)
     where
       go : (p : Res (Unit {0})) (c : Checked)
-          → (p >> (checked-codes c >>= λ cs. given (ceiling (attribute-loads cs) (other-steps cs) (length item) (length (elements item a v s))))) ≡ given n
-          → ceiling (report c .loads) (report c .others) (length item) (length (elements item a v s)) ≡ n
+          → (p >> (checked-codes c >>= λ cs. given (ceiling (length item) cs (length (elements item a v s))))) ≡ given n
+          → ceiling (length item) (codes-of c) (length (elements item a v s)) ≡ n
       go (given u) (accepted cs) e = cc
       go (given u) (faulty k l) e = let z : _≡_ {A = ℕ} 0 1 = cc in absurd (omega arith)
       go (refused k) c e = let z : _≡_ {A = ℕ} 0 1 = cc in absurd (omega arith)
@@ -145,7 +148,7 @@ module _ (item string : Bytes) (a v s budget room scratch : ℕ) where
   refused-alike n e = refused-ready item string a v s budget room scratch n (go (lawful-place item a v s) (check string) e)
     where
       go : (p : Res (Unit {0})) (c : Checked)
-          → (p >> (checked-codes c >>= λ cs. given (ceiling (attribute-loads cs) (other-steps cs) (length item) (length (elements item a v s))))) ≡ refused n
+          → (p >> (checked-codes c >>= λ cs. given (ceiling (length item) cs (length (elements item a v s))))) ≡ refused n
           → (p >> (checked-codes c >>= λ cs. (refuse short-scratch unless leb scratch-least scratch) >> given cs)) ≡ refused n
       go (given u) (accepted cs) e = let z : _≡_ {A = ℕ} 0 1 = cc in absurd (omega arith)
       go (given u) (faulty k l) e = ap (λ (x : Res ℕ). refused (refusal-of x)) e

@@ -1,5 +1,5 @@
 -- Demand 3 said of the very contract of `convert`: of any outcome that it allows, which is what `post` says, beside any outcome that the contracts of
--- `grammar::check` and `ceiling` allow on the same bytes and numbers. Assumes nothing.
+-- `judging::check` and `ceiling` allow on the same bytes and numbers. Assumes nothing.
 use Prim.Native.Nat.{ℕ, _≤_, _<_}
 use mathlib.Core.Path.{_≡_, refl, sym, ap, _∙_}
 use mathlib.Core.Logic.{_≢_}
@@ -8,16 +8,16 @@ use lib.ListN.{length}
 use contract.Lifetimes.{Lfts}
 use Rattle.paper.specs.Bytes.{Bytes}
 use Rattle.paper.specs.Sizes.{entry-most}
-use Rattle.paper.specs.Refusals.{Res, given, refused, refusal-of, over-budget, stack-fault}
+use Rattle.paper.specs.Refusals.{Res, given, refused, refusal-of, over-budget, stack-fault, mark-in-element, last-refusal}
 use Rattle.paper.specs.Checking.{check, Report, report}
-use Rattle.paper.specs.Converting.{Outcome, elements, ready, convert, convert-freely, output-after, ceiling}
+use Rattle.paper.specs.Converting.{Outcome, elements, ready, convert, convert-freely, output-after, counted-ceiling}
 use Rattle.paper.proofs.Predicates.{All}
 use Rattle.paper.proofs.Budget.{Completed, defined-costs, converting-within-budget, converting-over-budget}
-use Rattle.paper.proofs.Ceiling.{steps-within-ceiling}
+use Rattle.paper.proofs.Ceiling.{steps-within-ceiling, ceiling-reported}
 use Rattle.paper.proofs.Stack.{SafeCode, checked-codes-are-safe}
 use Rattle.paper.proofs.Numbered.{converting-numbered, converting-told, told-refused, no-stack-fault as converting-has-no-stack-fault}
-use Rattle.grammar.specs.Checking.{report-in}
-use Rattle.grammar.proofs.check.Reads as check-call
+use Rattle.judging.specs.Verdicts.{report-in}
+use Rattle.judging.proofs.check.Reads as check-call
 use Rattle.convert.specs.Gather.{converted-of}
 use Rattle.convert.specs.Running.{codes-in, Accepts}
 use Rattle.convert.specs.Ceiling.{ceiling-of, ceiling-told}
@@ -85,13 +85,13 @@ module _ (κs : Lfts 3) (args : _) (r : _) (exits : _) (post : convert-call.Post
       (number-is ∙ ap refusal-of (short .0), rw steps-is (short .1))
 
   -- of a refusal the call tells a number of the table, of an answer 0, and 0 of nothing else
-  pub refusal-told : (n : ℕ) → convert item code a v s budget room scratch .answer ≡ refused n → (r .number ≡ n) × (1 ≤ n) × (n ≤ 16)
-  refusal-told n e = let told = converting-numbered item code a v s budget room scratch n e in (number-is ∙ ap refusal-of e, told .0, told .1)
+  pub refusal-told : (n : ℕ) → convert item code a v s budget room scratch .answer ≡ refused n → (r .number ≡ n) × (1 ≤ n) × (n ≤ last-refusal) × (n ≢ mark-in-element)
+  refusal-told n e = let told = converting-numbered item code a v s budget room scratch n e in (number-is ∙ ap refusal-of e, told .0, told .1, told .2)
 
   pub answer-told : (bs : Bytes) → convert item code a v s budget room scratch .answer ≡ given bs → r .number ≡ 0
   answer-told bs e = number-is ∙ ap refusal-of e
 
-  pub number-in-table : r .number ≤ 16
+  pub number-in-table : (r .number ≤ last-refusal) × (r .number ≢ mark-in-element)
   number-in-table = rw number-is (converting-told item code a v s budget room scratch)
 
   pub zero-answered : r .number ≡ 0 → (bs : Bytes) × (convert item code a v s budget room scratch .answer ≡ given bs)
@@ -107,8 +107,8 @@ module _ (κs : Lfts 3) (args : _) (r : _) (exits : _) (post : convert-call.Post
     report-is = checked .1 ∙ ap (λ (b : Bytes). report (check b)) same
 
     -- the count is never above the ceiling of its A and B
-    pub steps-at-most-ceiling : r .steps ≤ ceiling (report-in verdict .loads) (report-in verdict .others) (length item) (length (elements item a v s))
-    steps-at-most-ceiling = rw (steps-is, report-is) (steps-within-ceiling item code a v s budget room scratch)
+    pub steps-at-most-ceiling : r .steps ≤ counted-ceiling (report-in verdict .loads) (report-in verdict .others) (length item) (length (elements item a v s))
+    steps-at-most-ceiling = rw (steps-is, report-is, ← ceiling-reported) (steps-within-ceiling item code a v s budget room scratch)
 
     accepted : report-in verdict .refusal ≡ 0 → Accepts code
     accepted e = accepts code (ap (λ (x : Report). x .refusal) (sym report-is) ∙ e)

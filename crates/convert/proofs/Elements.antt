@@ -12,55 +12,48 @@ use Rattle.paper.specs.Sizes.{entry-most}
 use Rattle.paper.specs.Refusals.{Res, given, refused}
 use Rattle.paper.specs.Steps.{stop, codes-run, element-run}
 use Rattle.paper.specs.Converting.{Outcome, within-budget}
-use Rattle.machine.specs.Slots.{Slotted, element-slot, entry-at, put-in, put-length}
+use Rattle.stack.specs.Slots.{Slotted, element-slot, entry-at, put-in, put-length}
 use Rattle.paper.specs.Checking.{Checked, check}
-use Rattle.machine.specs.Runs.{ran-of, Runs, checked-run}
+use Rattle.machine.specs.Runs.{metered, ran-of, Runs, codes-outcome, checked-run}
 use Rattle.machine.specs.declared.Ran.{Ran}
-use Rattle.machine.proofs.Laws.{put-same, put-slotted}
+use Rattle.machine.specs.declared.Meter.{Meter}
+use Rattle.steps.specs.declared.Position.{Position}
+use Rattle.stack.proofs.Putting.{put-same, put-slotted}
 use Rattle.convert.specs.Gather.{gathered-in}
 use Rattle.convert.specs.Running.{codes-in, Accepts, element-outcome, stopped-as, Adds}
 use Rattle.convert.specs.declared.Walked.{Walked}
 
--- the code's limit is the definitions'
-pub over-limit : (n : ℕ) → 1_024 < n → entry-most < n
-unfolding entry-most
-over-limit n h = h
-
-pub within-limit : (n : ℕ) → n ≤ 1_024 → n ≤ entry-most
-unfolding entry-most
-within-limit n h = h
-
-module _ (item string text : Bytes) (v s budget steps : ℕ) where
+module _ (item string text : Bytes) (place : Position) (meter : Meter) where
   pub over-long : {scratch : Bytes} {lens : List ℕ} → Slotted scratch lens → entry-most < length text
-      → Runs (element-outcome item string v s budget steps text) (Ran.Stopped 9 steps) scratch lens
+      → Runs (element-outcome item string place meter text) (Ran.Stopped (meter .steps) 9) scratch lens
   unfolding element-run within-budget ran-of
   over-long {scratch} {lens} slotted h =
-      let stops : element-outcome item string v s budget steps text ≡ record { answer = refused 9; steps = steps }
-      = ap (λ (t : Bool). within-budget budget steps (if t then codes-run entry-most item v s (codes-in string) text else stop 9)) (lt-leb (length text) entry-most h) in
-      subst (λ (o : Outcome). Runs o (Ran.Stopped 9 steps) scratch lens) (sym stops)
+      let stops : element-outcome item string place meter text ≡ record { answer = refused 9; steps = meter .steps }
+      = ap (λ (t : Bool). metered meter (if t then codes-run entry-most item (place .v) (place .s) (codes-in string) text else stop 9)) (lt-leb (length text) entry-most h) in
+      subst (λ (o : Outcome). Runs o (Ran.Stopped (meter .steps) 9) scratch lens) (sym stops)
       (record { answers = refl; element = tt; slotted = slotted })
 
   -- put into its slot, the element goes through the codes
   pub put-and-run : {scratch scratch₁ scratch′ : Bytes} {lens lens₁ lens′ : List ℕ} {r : Ran} → Slotted scratch lens → length text ≤ entry-most
       → scratch₁ ≡ put-in scratch element-slot text → lens₁ ≡ put-length lens element-slot text
       → Accepts string
-      → Runs (within-budget budget steps (checked-run item v s (check string) (entry-at scratch₁ lens₁ element-slot))) r scratch′ lens′
-      → Runs (element-outcome item string v s budget steps text) r scratch′ lens′
+      → Runs (codes-outcome item (check string) place meter scratch₁ lens₁) r scratch′ lens′
+      → Runs (element-outcome item string place meter text) r scratch′ lens′
   unfolding element-run checked-run
   put-and-run {scratch} {scratch₁} {scratch′} {lens} {lens₁} {lens′} {r} slotted fit e f well runs =
       let held : entry-at scratch₁ lens₁ element-slot ≡ text
       = ap (λ (b : Bytes). entry-at b lens₁ element-slot) e ∙ ap (λ (l : List ℕ). entry-at (put-in scratch element-slot text) l element-slot) f
       ∙ put-same slotted element-slot text (lit< tt) fit in
-      let same : within-budget budget steps (checked-run item v s (check string) (entry-at scratch₁ lens₁ element-slot))
-      ≡ element-outcome item string v s budget steps text
-      = ap (λ (c : Checked). within-budget budget steps (checked-run item v s c (entry-at scratch₁ lens₁ element-slot))) well
-      ∙ ap (λ (b : Bytes). within-budget budget steps (codes-run entry-most item v s (codes-in string) b)) held
-      ∙ ap (λ (t : Bool). within-budget budget steps (if t then codes-run entry-most item v s (codes-in string) text else stop 9)) (sym (le-leb (length text) entry-most fit)) in
+      let same : metered meter (checked-run item place (check string) (entry-at scratch₁ lens₁ element-slot))
+      ≡ element-outcome item string place meter text
+      = ap (λ (c : Checked). metered meter (checked-run item place c (entry-at scratch₁ lens₁ element-slot))) well
+      ∙ ap (λ (b : Bytes). metered meter (codes-run entry-most item (place .v) (place .s) (codes-in string) b)) held
+      ∙ ap (λ (t : Bool). metered meter (if t then codes-run entry-most item (place .v) (place .s) (codes-in string) text else stop 9)) (sym (le-leb (length text) entry-most fit)) in
       subst (λ (o : Outcome). Runs o r scratch′ lens′) same runs
 
-  pub slotted-after : {scratch scratch₁ : Bytes} {lens lens₁ : List ℕ} → Slotted scratch lens → length text ≤ entry-most
-      → scratch₁ ≡ put-in scratch element-slot text → lens₁ ≡ put-length lens element-slot text → Slotted scratch₁ lens₁
-  slotted-after slotted fit e f = rw (e, f) (put-slotted slotted element-slot text (lit< tt) fit)
+pub slotted-after : (text : Bytes) {scratch scratch₁ : Bytes} {lens lens₁ : List ℕ} → Slotted scratch lens → length text ≤ entry-most
+    → scratch₁ ≡ put-in scratch element-slot text → lens₁ ≡ put-length lens element-slot text → Slotted scratch₁ lens₁
+slotted-after text slotted fit e f = rw (e, f) (put-slotted slotted element-slot text (lit< tt) fit)
 
 -- an entry is within the limit
 pub entry-short : {scratch : Bytes} {lens : List ℕ} → Slotted scratch lens → (k : ℕ) → length (entry-at scratch lens k) ≤ entry-most
@@ -70,10 +63,10 @@ entry-short {scratch} {lens} slotted k = rw length-take (omega (arith, slotted .
 module _ (so-far : ℕ) (out : Bytes) {r : Ran} {scratch′ : Bytes} {lens′ : List ℕ} where
   -- its refusal is passed up
   pub adds-stopped : (answer : Res Bytes) (steps n k : ℕ) {w : Walked} → Runs (record { answer = answer; steps = steps }) r scratch′ lens′
-      → r ≡ Ran.Stopped n k → w ≡ stopped-as r → Adds (record { answer = answer; steps = steps }) so-far w out out scratch′ lens′
+      → r ≡ Ran.Stopped k n → w ≡ stopped-as r → Adds (record { answer = answer; steps = steps }) so-far w out out scratch′ lens′
   unfolding ran-of stopped-as
   adds-stopped (given bs) steps n k runs e f =
-      let not-so : Ran.Done steps ≡ Ran.Stopped n k = sym (runs .answers) ∙ e in
+      let not-so : Ran.Done steps ≡ Ran.Stopped k n = sym (runs .answers) ∙ e in
       let z : _≡_ {A = ℕ} 0 1 = cc in
       absurd (omega arith)
   adds-stopped (refused m) steps n k runs e f =
@@ -95,7 +88,7 @@ module _ (so-far : ℕ) (out : Bytes) {r : Ran} {scratch′ : Bytes} {lens′ : 
         short = rw (← held) (entry-short (runs .slotted) element-slot);
       }
   adds-done (refused m) steps k runs e f =
-      let not-so : Ran.Stopped m steps ≡ Ran.Done k = sym (runs .answers) ∙ e in
+      let not-so : Ran.Stopped steps m ≡ Ran.Done k = sym (runs .answers) ∙ e in
       let z : _≡_ {A = ℕ} 0 1 = cc in
       absurd (omega arith)
 

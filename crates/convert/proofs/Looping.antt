@@ -7,18 +7,18 @@ use native.Mathlib.Omega.{arith}
 use native.Mathlib.Numerals.{add-one}
 use lib.ListN.{length, take, drop, getD, length-append, length-drop, length-take, drop-of-length-le}
 use lib.Seq.{drop-drop, drop-cons}
-use lib.Dec.{leb, eqb}
-use borrow.Author.Tests.{leb-true, eqb-true, eqb-false}
+use lib.Dec.{eqb}
+use borrow.Author.Tests.{eqb-true, eqb-false}
 use Rattle.paper.specs.Bytes.{Bytes, if_then_else_, within}
 use Rattle.paper.specs.Sizes.{entry-most, record-most, position-most, value-mark, subvalue-mark}
-use Rattle.paper.specs.Refusals.{Res, given, refused, answer-of, over-budget}
-use Rattle.paper.specs.Steps.{Run, done, stop, step}
+use Rattle.paper.specs.Refusals.{Res, given, refused, answer-of}
 use Rattle.paper.specs.Converting.{Outcome, within-budget}
 use Rattle.lent.specs.Scan.{range, upto}
+use Rattle.paper.proofs.Budget.{budget-kept}
 use Rattle.paper.proofs.Ranges.{within-true}
 use Rattle.lent.proofs.Scans.{range-rest, length-upto}
 use Rattle.lent.proofs.Pieces.{take-upto}
-use Rattle.machine.specs.Slots.{Slotted}
+use Rattle.stack.specs.Slots.{Slotted}
 use Rattle.convert.specs.Gather.{gathered-in, Holds-answer, walked-of}
 use Rattle.convert.specs.Walk.{walked}
 use Rattle.convert.specs.Running.{codes-in, element-outcome, elements-outcome, added, added-out, position, passed, Adds, Walks}
@@ -26,9 +26,10 @@ use types.Run.{OneOf}
 use denote.Enum.Declared.{tagOf}
 use Rattle.convert.specs.declared.Walked.{Walked}
 use Rattle.convert.proofs.Walked.{the-type}
-use Rattle.convert.specs.declared.Position.{Position}
+use Rattle.steps.specs.declared.Position.{Position}
+use Rattle.machine.specs.declared.Meter.{Meter}
 use Rattle.convert.proofs.Answering.{held-none, held-more, gathered-length}
-use Rattle.convert.proofs.Gathering.{gathered, gathered-start}
+use Rattle.convert.proofs.Gathering.{gathered-start}
 use Rattle.convert.proofs.Walking.{first-text}
 use Rattle.convert.proofs.Turning.{left, first-outcome, left-stopped, left-last, left-value, left-subvalue}
 
@@ -36,18 +37,6 @@ use Rattle.convert.proofs.Turning.{left, first-outcome, left-stopped, l
 pub stopped-tag : (r : Walked) → OneOf (1 ∷ []) (tagOf the-type r) → (n : ℕ) × (m : ℕ) × (r ≡ Walked.Stopped n m)
 stopped-tag (Walked.Done k n) t = absurd (omega arith)
 stopped-tag (Walked.Stopped n m) t = (n, m, refl)
-
--- a run within its budget counts no more than it
-pub budget-kept : (r : Run Bytes) (budget so-far : ℕ) → so-far ≤ budget → within-budget budget so-far r .steps ≤ budget
-unfolding within-budget
-budget-kept (done a) budget so-far h = h
-budget-kept (stop n) budget so-far h = h
-budget-kept (step cost r) budget so-far h = go (leb (so-far + cost) budget) refl (λ l. budget-kept r budget (so-far + cost) l)
-  where
-    go : (t : Bool) → leb (so-far + cost) budget ≡ t → (so-far + cost ≤ budget → within-budget budget (so-far + cost) r .steps ≤ budget)
-        → (if t then within-budget budget (so-far + cost) r else record { answer = refused over-budget; steps = so-far }) .steps ≤ budget
-    go true e again = again (leb-true _ _ e)
-    go false e again = h
 
 -- where the first element of the bytes from `at` on ends
 module _ (text : Bytes) (at end : ℕ) (inside : at ≤ length text)
@@ -96,6 +85,9 @@ outcome-as o a e = λ i. record { answer = e i; steps = o .steps }
 one-byte : (end : ℕ) (bs : Bytes) → length (take (end + 1 - end) bs) ≤ 1
 one-byte end bs = let one : end + 1 - end ≡ 1 = omega arith in omega (arith, length-take (end + 1 - end) bs)
 
+abbrev pub counting : ℕ → ℕ → Meter
+counting budget steps = record { budget = budget; steps = steps }
+
 -- What is known at each turn, of a walk over `text` that is to come to `o`.
 pub record Turn (item string text : Bytes) (budget : ℕ) (o : Outcome) (room at : ℕ) (place : Position) (steps so-far : ℕ) (out scratch : Bytes) (lens : List ℕ)
     : Type 0 where
@@ -112,13 +104,13 @@ pub record Turn (item string text : Bytes) (budget : ℕ) (o : Outcome) (room at
   pub slotted : Slotted scratch lens
 
 module _ (item string text : Bytes) (budget : ℕ) where
-  pub first-turn : (v s : ℕ) {out scratch : Bytes} {lens : List ℕ} → v ≤ position-most → s ≤ position-most → Slotted scratch lens
-      → Turn item string text budget (elements-outcome item string v s budget text) (length out) 0 (position v s) 0 0 out scratch lens
+  pub first-turn : (first : Position) {out scratch : Bytes} {lens : List ℕ} → first .v ≤ position-most → first .s ≤ position-most → Slotted scratch lens
+      → Turn item string text budget (elements-outcome item string first budget text) (length out) 0 first 0 0 out scratch lens
   unfolding left
-  first-turn v s {out} hv hs slotted =
+  first-turn first {out} hv hs slotted =
       record {
         answer = [];
-        coming = ap (within-budget budget 0) (gathered-start entry-most item (codes-in string) (walked [] v s text));
+        coming = ap (within-budget budget 0) (gathered-start entry-most item (codes-in string) (walked [] (first .v) (first .s) text));
         long = refl;
         held = held-none out;
         same-room = refl;
@@ -135,11 +127,11 @@ module _ (item string text : Bytes) (budget : ℕ) where
       (end : ℕ) (ends : end ≡ at + length (upto subvalue-mark value-mark (range text at (length text)))) where
     -- the element of this turn, as the code cuts it
     abbrev now-outcome : Outcome
-    now-outcome = element-outcome item string (place .v) (place .s) budget steps (take (end - at) (drop at text))
+    now-outcome = element-outcome item string place (counting budget steps) (take (end - at) (drop at text))
 
     is-first : first-outcome entry-most item (codes-in string) budget (place .v) (place .s) steps (drop at text) ≡ now-outcome
     unfolding first-outcome
-    is-first = ap (element-outcome item string (place .v) (place .s) budget steps) (sym (piece-is text at end (turn .inside) ends))
+    is-first = ap (element-outcome item string place (counting budget steps)) (sym (piece-is text at end (turn .inside) ends))
 
     module _ {r : Walked} {out′ scratch′ : Bytes} {lens′ : List ℕ} (adds : Adds now-outcome so-far r out out′ scratch′ lens′) where
       -- it was refused, and so is the whole

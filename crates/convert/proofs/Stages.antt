@@ -1,37 +1,39 @@
 -- Converting in its stages: the tests before the run, each with its own outcome, and the run. Assumes nothing.
 use Prim.Native.Nat.{ℕ, zero, suc, _≤_, _<_}
 use mathlib.Core.Path.{_≡_, refl, sym, ap, _∙_, subst}
-use mathlib.Core.Bool.{Bool, true, false, _&&_}
+use mathlib.Core.Bool.{_&&_}
 use mathlib.Core.List.{List, [], _∷_}
 use native.Mathlib.Omega.{arith}
 use native.Mathlib.Nat.{sub-zero}
 use lib.ListN.{length, getD, replicate}
 use lib.Dec.{leb, ltb, eqb, lit≤}
-use borrow.Author.Tests.{le-leb, lt-leb, leb-true, lt-ltb, eq-eqb}
+use borrow.Author.Tests.{le-leb, lt-leb, leb-true}
 use Rattle.paper.specs.Bytes.{Bytes, any, buffer}
 use Rattle.paper.specs.Sizes.{entry-most, record-most, attribute-most, position-most, scratch-least, is-outer-mark}
 use Rattle.paper.specs.Refusals.{Res, given, refused, _>>_, refuse_unless_, refuse_when_, over-long-record, bad-byte, bad-address, short-scratch}
 use Rattle.paper.specs.Records.{lawful-record, lawful-address, lawful-id, path, reads, Part, Turn, whole, text-or-empty}
-use Rattle.paper.specs.Checking.{Checked, accepted, faulty, check, checked-codes}
+use Rattle.paper.specs.Checking.{Checked, accepted, faulty, check, checked-codes, codes-of}
 use Rattle.paper.specs.Converting.{Outcome, within-budget, from-one, elements-run, run, lawful-place, lawful-code, ready, finished, carried-out, convert, output-after, scratch-after}
-use Rattle.paper.proofs.Refusing.{Passed, passed, when-passed}
+use Rattle.paper.proofs.Truths.{both, unless-passed, when-passed, zero-too}
+use Rattle.paper.proofs.Refusing.{Passed, passed}
 use Rattle.paper.proofs.Predicates.{and-all}
 use Rattle.paper.proofs.Splitting.{Told, absent, present, Inside, inside-bounds, part-at-inside}
 use mathlib.Core.Option.{Option}
-use Rattle.machine.specs.Slots.{Slotted}
+use Rattle.stack.specs.Slots.{Slotted}
 use Rattle.records.specs.Found.{lawful-find}
-use Rattle.grammar.specs.Checking.{verdict-of, report-in}
-use Rattle.grammar.specs.declared.Verdict.{Verdict}
+use Rattle.judging.specs.Verdicts.{verdict-of, report-in}
+use Rattle.judging.specs.declared.Verdict.{Verdict}
+use Rattle.judging.specs.declared.Counts.{Counts}
 use Rattle.convert.specs.Gather.{converted-of, refused-at-once, finished-as, finished-out}
 use Rattle.convert.specs.declared.Converted.{Converted}
 use Rattle.convert.proofs.Answering.{finished-outcome}
-use Rattle.convert.specs.Running.{codes-of, codes-in, Accepts, elements-outcome, Walks}
+use Rattle.convert.specs.Running.{codes-in, Accepts, elements-outcome, position, Walks}
 use Rattle.convert.specs.declared.Walked.{Walked}
 use Rattle.convert.specs.Walk.{walked}
 use Rattle.convert.proofs.Walking.{elements-walked}
 
 -- what an accepting or refusing verdict says of the paper's check
-pub accepted-by : (string : Bytes) (c : Checked) {loads others : ℕ} → check string ≡ c → Verdict.Accepted loads others ≡ verdict-of c → Accepts string
+pub accepted-by : (string : Bytes) (c : Checked) {counts : Counts} → check string ≡ c → Verdict.Accepted counts ≡ verdict-of c → Accepts string
 unfolding verdict-of codes-in
 accepted-by string (accepted cs) e f = e ∙ ap accepted (sym (ap codes-of e))
 accepted-by string (faulty n k) e f = let z : _≡_ {A = ℕ} 0 1 = cc in absurd (omega arith)
@@ -99,21 +101,6 @@ first (and-all h hs) = h
 second : {r q : Res (Unit {0})} {rs : List (Res (Unit {0}))} → Passed (r ∷ q ∷ rs) → q ≡ given tt
 second (and-all h hs) = first hs
 
-unless-passed : (n : ℕ) (t : Bool) → (refuse n unless t) ≡ given tt → t ≡ true
-unless-passed n true e = refl
-unless-passed n false e = cc
-
-both-true : (t u : Bool) → (t && u) ≡ true → (t ≡ true) × (u ≡ true)
-both-true true u e = (refl, e)
-both-true false u e = (e, cc)
-
-whole-when : (v s : ℕ) → (eqb v 0 && ltb 0 s) ≡ false → v ≡ 0 → s ≡ 0
-whole-when v zero e z = refl
-whole-when v (suc s) e z =
-    let no-whole : true ≡ false = sym (rw (eq-eqb v 0 z, lt-ltb 0 (suc s) (omega arith))) ∙ e in
-    let w : _≡_ {A = ℕ} 0 1 = cc in
-    absurd (omega arith)
-
 size-passed : (item : Bytes) → lawful-record item ≡ given tt → length item ≤ record-most
 unfolding lawful-record
 size-passed item e =
@@ -125,9 +112,9 @@ unfolding lawful-address
 address-passed a v s e =
     let p = passed ((refuse bad-address unless leb a attribute-most && leb v position-most && leb s position-most) ∷ (refuse bad-address when eqb v 0 && ltb 0 s) ∷ [])
     (refuse bad-address when eqb a 0 && ltb 0 v) e in
-    let t = both-true (leb a attribute-most && leb v position-most) (leb s position-most) (unless-passed bad-address _ (first (p .0))) in
-    let u = both-true (leb a attribute-most) (leb v position-most) (t .0) in
-    (leb-true _ _ (u .1), leb-true _ _ (t .1), whole-when v s (when-passed bad-address _ (second (p .0))))
+    let t = both (leb a attribute-most && leb v position-most) (leb s position-most) (unless-passed bad-address _ (first (p .0))) in
+    let u = both (leb a attribute-most) (leb v position-most) (t .0) in
+    (leb-true _ _ (u .1), leb-true _ _ (t .1), zero-too v s (when-passed bad-address _ (second (p .0))))
 
 pub lawful-numbers : (item : Bytes) (a v s : ℕ) → lawful-find item a v s ≡ given tt → Lawful item v s
 unfolding lawful-find
@@ -180,13 +167,13 @@ zero-scratch n = refl
 
 -- the walk over what the address reads, from its position or from 1, is the paper's run
 pub walks-run : (item string : Bytes) (a v s budget : ℕ) {v′ s′ : ℕ} {text : Bytes} {r : Walked} {out out′ : Bytes} → Lawful item v s
-    → text ≡ reads item (path a v s) → v′ ≡ from-one v → s′ ≡ from-one s → Walks (elements-outcome item string v′ s′ budget text) r out out′
+    → text ≡ reads item (path a v s) → v′ ≡ from-one v → s′ ≡ from-one s → Walks (elements-outcome item string (position v′ s′) budget text) r out out′
     → Walks (within-budget budget 0 (run item a v s (codes-in string))) r out out′
 walks-run item string a v s budget {v′} {s′} {text} {r} {out} {out′} lawful e f g walks =
-    let same : elements-outcome item string v′ s′ budget text ≡ within-budget budget 0 (run item a v s (codes-in string))
-    = ap (elements-outcome item string v′ s′ budget) e
-    ∙ ap (λ (x : ℕ). elements-outcome item string x s′ budget (reads item (path a v s))) f
-    ∙ ap (λ (x : ℕ). elements-outcome item string (from-one v) x budget (reads item (path a v s))) g
+    let same : elements-outcome item string (position v′ s′) budget text ≡ within-budget budget 0 (run item a v s (codes-in string))
+    = ap (elements-outcome item string (position v′ s′) budget) e
+    ∙ ap (λ (x : ℕ). elements-outcome item string (position x s′) budget (reads item (path a v s))) f
+    ∙ ap (λ (x : ℕ). elements-outcome item string (position (from-one v) x) budget (reads item (path a v s))) g
     ∙ ap (within-budget budget 0) (run-walked item a v s string lawful) in
     subst (λ (o : Outcome). Walks o r out out′) same walks
 

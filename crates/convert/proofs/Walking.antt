@@ -1,5 +1,5 @@
 -- One walk from left to right visits exactly the elements of an address, each with its own position and the mark before it. Assumes nothing.
-use Prim.Native.Nat.{ℕ, zero, suc, _+_, _≤_}
+use Prim.Native.Nat.{ℕ, zero, suc, _≤_}
 use mathlib.Core.Path.{_≡_, refl, sym, ap, _∙_}
 use mathlib.Core.Bool.{Bool, true, false, _||_}
 use mathlib.Core.List.{List, [], _∷_, _++_, append-nil}
@@ -12,10 +12,10 @@ use lib.ListN.{length, drop}
 use Rattle.paper.specs.Bytes.{Bytes, if_then_else_, within}
 use Rattle.lent.specs.Scan.{upto}
 use Rattle.paper.specs.Sizes.{attribute-mark, value-mark, subvalue-mark}
-use Rattle.paper.specs.Records.{opened, split, Part, placed, pieces, nth, path, part-at, whole, place, reads, text-or-empty}
-use Rattle.paper.proofs.Predicates.{All, none-of, and-all, all-both}
+use Rattle.paper.specs.Records.{opened, split, Part, pieces, nth, path, part-at, whole, place, reads, text-or-empty}
+use Rattle.paper.proofs.Predicates.{all-both}
 use Rattle.paper.specs.Converting.{Element, subvalues, values, from-one, elements-in, elements-of, elements}
-use Rattle.paper.proofs.Splitting.{Filled, filled, split-filled, Free, split-last, split-free, split-without, Told, absent, present, told-then, nth-told}
+use Rattle.paper.proofs.Splitting.{Filled, filled, split-filled, Free, split-last, split-free, split-without, Told, absent, present, told-then, nth-told, placed-each}
 use Rattle.convert.specs.Walk.{element, in-front, walked}
 
 -- the elements of the first value from the s-th subvalue on, and those of the values after it
@@ -74,19 +74,14 @@ walked-one text before v s free free′ =
     sym (ap (subvalues before v s) (split-last subvalue-mark free′)) ∙ walked-subvalues text before v s free
 
 -- what is free of a mark stays so in a piece by another mark, and a piece by the mark itself is free of it
-placed-all : {P : Bytes → Type 0} (start : ℕ) {ps : List Bytes} → All P ps → All (λ p. P (p .text)) (placed start ps)
-unfolding placed
-placed-all start none-of = none-of
-placed-all start (and-all h hs) = and-all h (placed-all _ hs)
-
 piece-free : (m n : ℕ) (w : Part) → Told (λ p. Free m (p .text)) (nth n (pieces m w))
 unfolding pieces
-piece-free m n w = nth-told n (placed-all (w .start) (split-free m (w .text)))
+piece-free m n w = nth-told n (placed-each (w .start) (split-free m (w .text)))
 
 subpiece-free : (k m n : ℕ) (w : Part) → Free k (w .text) → Told (λ p. Free k (p .text) × Free m (p .text)) (nth n (pieces m w))
 unfolding pieces
 subpiece-free k m n w free =
-    nth-told n (placed-all (w .start) (all-both (split-without (λ b. eqb b k) m free) (split-free m (w .text))))
+    nth-told n (placed-each (w .start) (all-both (split-without (λ b. eqb b k) m free) (split-free m (w .text))))
 
 -- a value holds no value mark, a subvalue neither mark
 value-free : (item : Bytes) (a v : ℕ) → Told (λ p. Free value-mark (p .text)) (place item a (suc v) zero)

@@ -4,16 +4,17 @@ use lib.ListN.{length}
 use Rattle.paper.specs.Bytes.{Bytes}
 use Rattle.paper.specs.Sizes.{record-most}
 use Rattle.paper.specs.Refusals.{Res, given, refused, _>>=_, _>>_}
-use Rattle.paper.specs.Checking.{check, checked-codes, attribute-loads, other-steps}
+use Rattle.paper.specs.Checking.{check, checked-codes}
 use Rattle.paper.specs.Converting.{elements, lawful-place, ceiling}
 use Rattle.convert.specs.declared.Bound.{Bound}
 
--- the refusals that converting tries before its run, but for the scratch, which no ceiling asks for; then "m x (A x (1,025 + R) + B x 4,097)"
+-- the refusals that converting tries before its run, but for the scratch, which no ceiling asks for;
+-- then the number of elements times what the string's steps can cost
 unfoldable pub ceiling-of : Bytes → Bytes → ℕ → ℕ → ℕ → Res ℕ
 ceiling-of item string a v s = do
   lawful-place item a v s
   cs ← checked-codes (check string)
-  given (ceiling (attribute-loads cs) (other-steps cs) (length item) (length (elements item a v s)))
+  given (ceiling (length item) cs (length (elements item a v s)))
 
 -- the call's answer: the number or the refusal of each case
 unfoldable pub ceiling-told : Res ℕ → Bound

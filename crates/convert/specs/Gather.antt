@@ -6,7 +6,7 @@ use lib.ListN.{length, take, replicate}
 use lib.Dec.{leb}
 use Rattle.paper.specs.Bytes.{Bytes, if_then_else_}
 use Rattle.paper.specs.Refusals.{Res, given, refused, refusal-of, answer-of, short-output}
-use Rattle.paper.specs.Converting.{Outcome}
+use Rattle.paper.specs.Converting.{Outcome, convert}
 use Rattle.lent.specs.Over.{over}
 use Rattle.convert.specs.declared.Converted.{Converted}
 use Rattle.convert.specs.declared.Walked.{Walked}
@@ -22,6 +22,10 @@ Holds-answer out answer = length answer ≤ length out → take (length answer) 
 -- what converting answers: the paper's numbers for each of its fields
 unfoldable pub converted-of : Outcome → Converted
 converted-of o = record { number = refusal-of (o .answer); steps = o .steps; length = length (answer-of (o .answer)) }
+
+-- converting, into this output, with this scratch
+abbrev pub converted-into : Bytes → Bytes → ℕ → ℕ → ℕ → ℕ → Bytes → Bytes → Outcome
+converted-into item string a v s budget out scratch = convert item string a v s budget (length out) (length scratch)
 
 -- a refusal before the run: "0 when the run never began"
 abbrev pub refused-at-once : ℕ → Outcome

@@ -9,20 +9,18 @@ use Rattle.paper.specs.Sizes.{entry-most, value-mark}
 use Rattle.paper.specs.Refusals.{Res, given, refused, answer-of}
 use Rattle.paper.specs.Steps.{element-run}
 use Rattle.paper.specs.Converting.{Outcome, within-budget, elements-run}
-use Rattle.machine.specs.Slots.{Slotted}
+use Rattle.stack.specs.Slots.{Slotted}
 use Rattle.machine.specs.declared.Ran.{Ran}
+use Rattle.machine.specs.declared.Meter.{Meter}
+use Rattle.machine.specs.Runs.{metered}
 use Rattle.paper.specs.Codes.{Code}
-use Rattle.paper.specs.Checking.{Checked, accepted, faulty, check}
+use Rattle.paper.specs.Checking.{accepted, check, codes-of}
 use Rattle.convert.specs.Gather.{gathered-in, Holds-answer, walked-of}
 use Rattle.convert.specs.Walk.{walked}
-use Rattle.convert.specs.declared.Position.{Position}
+use Rattle.steps.specs.declared.Position.{Position}
 use Rattle.convert.specs.declared.Walked.{Walked}
 
 -- the codes of a string; none where the check refuses it
-abbrev pub codes-of : Checked → List Code
-codes-of (accepted cs) = cs
-codes-of (faulty n k) = []
-
 unfoldable pub codes-in : Bytes → List Code
 codes-in string = codes-of (check string)
 
@@ -31,12 +29,12 @@ abbrev pub Accepts : Bytes → Type 0
 Accepts string = check string ≡ accepted (codes-in string)
 
 -- one element of an address, through the codes of the string
-abbrev pub element-outcome : Bytes → Bytes → ℕ → ℕ → ℕ → ℕ → Bytes → Outcome
-element-outcome item string v s budget steps text = within-budget budget steps (element-run entry-most item v s (codes-in string) text)
+abbrev pub element-outcome : Bytes → Bytes → Position → Meter → Bytes → Outcome
+element-outcome item string place meter text = metered meter (element-run entry-most item (place .v) (place .s) (codes-in string) text)
 
 -- the refusal of an element, passed up with the steps before it
 unfoldable pub stopped-as : Ran → Walked
-stopped-as (Ran.Stopped number steps) = Walked.Stopped number steps
+stopped-as (Ran.Stopped steps number) = Walked.Stopped number steps
 stopped-as (Ran.Done steps) = Walked.Stopped 0 steps
 
 abbrev pub added : ℕ → Res Bytes → ℕ → Walked
@@ -55,9 +53,9 @@ pub record Adds (o : Outcome) (so-far : ℕ) (r : Walked) (out out′ scratch′
   pub short : length (answer-of (o .answer)) ≤ entry-most
 
 -- all elements of the bytes that an address reads
-abbrev pub elements-outcome : Bytes → Bytes → ℕ → ℕ → ℕ → Bytes → Outcome
-elements-outcome item string v s budget text =
-    within-budget budget 0 (elements-run entry-most item (codes-in string) (walked [] v s text))
+abbrev pub elements-outcome : Bytes → Bytes → Position → ℕ → Bytes → Outcome
+elements-outcome item string first budget text =
+    within-budget budget 0 (elements-run entry-most item (codes-in string) (walked [] (first .v) (first .s) text))
 
 -- what the walk over them leaves: its answer, and the output with the whole answer in front where it fits
 pub record Walks (o : Outcome) (r : Walked) (out out′ : Bytes) : Type 0 where

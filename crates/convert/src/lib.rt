@@ -2,28 +2,48 @@
 // `convert` takes any record, code string, address, budget and buffers; it is the definition of crates/paper, byte for byte.
 // The elements are walked once from left to right, and each answer goes straight to the lent output.
 // `ceiling` works out beforehand the most steps that a conversion can take.
-use grammar::Verdict;
+use judging::Counts;
+use judging::Verdict;
+use machine::Meter;
 use machine::Plan;
 use machine::Ran;
-use machine::slots;
 use paper::Limit;
 use paper::Mark;
 use paper::refusal;
+use stack::slots;
+use steps::Position;
 ghost use mathlib.Core.Path.{_≡_};
 ghost use Prim.Native.Nat.{_+_, _^_, _≤_, _<_};
 ghost use lib.ListN.{length};
-ghost use Rattle.machine.specs.Slots.{Lent};
-ghost use Rattle.machine.specs.Plans.{plan-of};
-ghost use Rattle.machine.specs.Runs.{Runs};
-ghost use Rattle.convert.specs.Running.{codes-in, Accepts, element-outcome, elements-outcome, stopped-as, passed, Adds, Walks};
 ghost use Rattle.paper.specs.Sizes.{record-most, position-most, scratch-least};
 ghost use Rattle.paper.specs.Refusals.{given};
-ghost use Rattle.paper.specs.Converting.{from-one, within-budget, run, convert, output-after, scratch-after, ceiling};
+ghost use Rattle.paper.specs.Converting.{from-one, within-budget, run, output-after, scratch-after, counted-ceiling};
 ghost use Rattle.records.specs.Found.{lawful-find};
-ghost use Rattle.grammar.specs.Checking.{report-in};
+ghost use Rattle.judging.specs.Verdicts.{report-in};
+ghost use Rattle.stack.specs.Slots.{Lent};
+ghost use Rattle.machine.specs.Plans.{plan-of};
+ghost use Rattle.machine.specs.Runs.{Counted, Runs};
+ghost use Rattle.convert.specs.Running.{
+  codes-in,
+  Accepts,
+  element-outcome,
+  elements-outcome,
+  stopped-as,
+  passed,
+  Adds,
+  Walks,
+};
 ghost use Rattle.convert.specs.Walk.{inner-marks};
 ghost use Rattle.convert.specs.Ceiling.{Figures, ceiling-of, ceiling-told};
-ghost use Rattle.convert.specs.Gather.{gathered-in, unanswered-as, finished-as, finished-out, converted-of, refused-at-once};
+ghost use Rattle.convert.specs.Gather.{
+  gathered-in,
+  unanswered-as,
+  finished-as,
+  finished-out,
+  converted-of,
+  converted-into,
+  refused-at-once,
+};
 
 // What converting comes to: the refusal or 0, the steps reported, the answer's length.
 pub struct Converted {
@@ -99,25 +119,24 @@ fn element<'a>(
     code: &'a [u8],
     plan: Plan,
     text: &[u8],
-    v: u64,
-    s: u64,
-    budget: u64,
-    steps: u64,
+    place: Position,
+    meter: Meter,
     scratch: &mut [u8],
     lens: &mut [usize],
     work: &mut [u8],
 ) -> Ran
-    requires { ⌜ Lent (now item) (now scratch) (now lens) (now work) × Accepts (now code) × (steps ≤ budget) × (plan ≡ plan-of (now code)) ⌝ }
-    ensures { λ r. ⌜ Runs (element-outcome (now (item .entry)) (now (code .entry)) v s budget steps (now (text .entry))) r (now (scratch .exit)) (now (lens .exit)) ⌝ }
+    requires { ⌜ Lent (now item) (now scratch) (now lens) (now work) × Accepts (now code) × Counted meter × (plan ≡ plan-of (now code)) ⌝ }
+    ensures { λ r. ⌜ Runs (element-outcome (now (item .entry)) (now (code .entry)) place meter (now (text .entry)))
+        r (now (scratch .exit)) (now (lens .exit)) ⌝ }
 {
     if Limit::ENTRY.most < text.len() {
         return Ran::Stopped {
             number: refusal::OVER_LONG_ENTRY,
-            steps,
+            steps: meter.steps,
         };
     }
     slots::put(text, scratch, lens, slots::ELEMENT);
-    machine::running::run_codes(item, code, plan, v, s, budget, steps, scratch, lens, work)
+    machine::running::run_codes(item, code, plan, place, meter, scratch, lens, work)
 }
 
 // The refusal of an element, passed up with the steps counted before it.
@@ -130,50 +149,39 @@ fn stopped(ran: Ran) -> Walked
     }
 }
 
+// Where the walk stands: its element's own position, the steps counted under the budget, and the length of the answer so far.
+struct Standing {
+    place: Position,
+    meter: Meter,
+    so_far: usize,
+}
+
 // The same, its answer gathered in the output.
 fn add<'a>(
     item: &'a [u8],
     code: &'a [u8],
     plan: Plan,
     text: &[u8],
-    v: u64,
-    s: u64,
-    budget: u64,
-    steps: u64,
-    so_far: usize,
+    here: Standing,
     out: &mut [u8],
     scratch: &mut [u8],
     lens: &mut [usize],
     work: &mut [u8],
 ) -> Walked
-    requires { ⌜ Lent (now item) (now scratch) (now lens) (now work) × Accepts (now code) × (steps ≤ budget) × («so_far» < 2 ^ 62) × (plan ≡ plan-of (now code)) ⌝ }
-    ensures { λ r. ⌜ Adds (element-outcome (now (item .entry)) (now (code .entry)) v s budget steps (now (text .entry))) «so_far» r (now (out .entry)) (now (out .exit)) (now (scratch .exit)) (now (lens .exit)) ⌝ }
+    requires { ⌜ Lent (now item) (now scratch) (now lens) (now work) × Accepts (now code) × Counted (here .meter) × (here .«so_far» < 2 ^ 62) ⌝ }
+    requires { ⌜ plan ≡ plan-of (now code) ⌝ }
+    ensures { λ r. ⌜ Adds (element-outcome (now (item .entry)) (now (code .entry)) (here .place) (here .meter) (now (text .entry)))
+        (here .«so_far») r (now (out .entry)) (now (out .exit)) (now (scratch .exit)) (now (lens .exit)) ⌝ }
 {
-    let ran = element(
-        item,
-        code,
-        plan,
-        text,
-        v,
-        s,
-        budget,
-        steps,
-        scratch,
-        lens,
-        work,
-    );
+    let place = here.place;
+    let meter = here.meter;
+    let ran = element(item, code, plan, text, place, meter, scratch, lens, work);
     let Ran::Done { steps } = ran else {
         return stopped(ran);
     };
     let answer = slots::entry(&*scratch, &*lens, slots::ELEMENT);
-    let length = gather(answer, out, so_far);
+    let length = gather(answer, out, here.so_far);
     Walked::Done { steps, length }
-}
-
-// An element's own (v, s).
-struct Position {
-    v: u64,
-    s: u64,
 }
 
 // The position behind a mark.
@@ -194,45 +202,34 @@ fn pass(mark: u8, at: Position) -> Position
 fn walk<'a>(
     item: &'a [u8],
     code: &'a [u8],
-    plan: Plan,
     text: &[u8],
-    v: u64,
-    s: u64,
+    from: Position,
     budget: u64,
     out: &mut [u8],
     scratch: &mut [u8],
     lens: &mut [usize],
     work: &mut [u8],
 ) -> Walked
-    requires { ⌜ Lent (now item) (now scratch) (now lens) (now work) × Accepts (now code) × (length (now text) ≤ record-most) × (v ≤ position-most) × (s ≤ position-most) × (plan ≡ plan-of (now code)) ⌝ }
-    ensures { λ r. ⌜ Walks (elements-outcome (now (item .entry)) (now (code .entry)) v s budget (now (text .entry))) r (now (out .entry)) (now (out .exit)) ⌝ }
+    requires { ⌜ Lent (now item) (now scratch) (now lens) (now work) × Accepts (now code) × (length (now text) ≤ record-most) ⌝ }
+    requires { ⌜ (from .v ≤ position-most) × (from .s ≤ position-most) ⌝ }
+    ensures { λ r. ⌜ Walks (elements-outcome (now (item .entry)) (now (code .entry)) from budget (now (text .entry))) r (now (out .entry)) (now (out .exit)) ⌝ }
 {
+    let plan = machine::running::plan(code);
     let mut at = 0;
-    let mut place = Position { v, s };
+    let mut place = from;
     let mut steps = 0;
     let mut so_far = 0;
     loop {
-        let end = records::next_mark(text, at, text.len(), Mark::SUBVALUE, Mark::VALUE);
-        let added = add(
-            item,
-            code,
-            plan,
-            &text[at..end],
-            place.v,
-            place.s,
-            budget,
-            steps,
+        let end = lent::next_within(text, at, text.len(), Mark::SUBVALUE.byte, Mark::VALUE.byte);
+        let meter = Meter { budget, steps };
+        let here = Standing {
+            place,
+            meter,
             so_far,
-            out,
-            scratch,
-            lens,
-            work,
-        );
-        let Walked::Done {
-            steps: counted,
-            length,
-        } = added
-        else {
+        };
+        let element = &text[at..end];
+        let added = add(item, code, plan, element, here, out, scratch, lens, work);
+        let Walked::Done { steps: now, length } = added else {
             return added;
         };
         if text.len() <= end {
@@ -240,7 +237,7 @@ fn walk<'a>(
         }
         let next = end + 1;
         so_far = gather(&text[end..next], out, length);
-        steps = counted;
+        steps = now;
         place = pass(text[end], place);
         at = next;
     }
@@ -265,19 +262,21 @@ fn run<'a>(
     scratch: &mut [u8],
 ) -> Walked
     requires { ⌜ (lawful-find (now item) a v s ≡ given tt) × Accepts (now code) × (scratch-least ≤ length (now scratch)) ⌝ }
-    ensures { λ r. ⌜ Walks (within-budget budget 0 (run (now (item .entry)) a v s (codes-in (now (code .entry))))) r (now (out .entry)) (now (out .exit)) ⌝ }
+    ensures { λ r. ⌜ Walks (within-budget budget 0 (run (now (item .entry)) a v s (codes-in (now (code .entry)))))
+        r (now (out .entry)) (now (out .exit)) ⌝ }
 {
     let mut lens = [0usize; slots::SLOTS];
     let mut work = [0u8; Limit::ENTRY.most];
     let text = records::part(item, a, v, s);
-    let plan = machine::running::plan(code);
+    let first = Position {
+        v: from_one(v),
+        s: from_one(s),
+    };
     walk(
         item,
         code,
-        plan,
         text,
-        from_one(v),
-        from_one(s),
+        first,
         budget,
         out,
         scratch,
@@ -300,10 +299,7 @@ fn refusal_in(verdict: Verdict) -> u64
     ensures { λ r. ⌜ r ≡ report-in verdict .refusal ⌝ }
 {
     match verdict {
-        Verdict::Accepted {
-            loads: _,
-            others: _,
-        } => 0,
+        Verdict::Accepted(_) => 0,
         Verdict::Refused { number, code: _ } => number,
     }
 }
@@ -319,16 +315,17 @@ pub fn convert<'a>(
     out: &mut [u8],
     scratch: &mut [u8],
 ) -> Converted
-    ensures { λ r. ⌜ r ≡ converted-of (convert (now (item .entry)) (now (code .entry)) a v s budget (length (now (out .entry))) (length (now (scratch .entry)))) ⌝ }
-    ensures { λ _. ⌜ now (out .exit) ≡ output-after (length (now (out .entry))) (convert (now (item .entry)) (now (code .entry)) a v s budget (length (now (out .entry))) (length (now (scratch .entry)))) ⌝ }
+    ensures { λ r. ⌜ r ≡ converted-of (converted-into (now (item .entry)) (now (code .entry)) a v s budget (now (out .entry)) (now (scratch .entry))) ⌝ }
+    ensures { λ _. ⌜ now (out .exit) ≡ output-after (length (now (out .entry)))
+        (converted-into (now (item .entry)) (now (code .entry)) a v s budget (now (out .entry)) (now (scratch .entry))) ⌝ }
     ensures { λ _. ⌜ now (scratch .exit) ≡ scratch-after (length (now (scratch .entry))) ⌝ }
 {
     let refused = records::lawful_find(item, a, v, s);
     if refused != 0 {
         return refuse(refused, out, scratch);
     }
-    let verdict = grammar::check(code);
-    let Verdict::Accepted { .. } = verdict else {
+    let verdict = judging::check(code);
+    let Verdict::Accepted(_) = verdict else {
         return refuse(refusal_in(verdict), out, scratch);
     };
     if scratch.len() < Limit::SCRATCH.most {
@@ -366,11 +363,11 @@ fn inner_marks(text: &[u8]) -> u64
 }
 
 // "Ceiling: with A attribute loads and B other steps in the string, record length R and m elements, m x (A x (1,025 + R) + B x 4,097)."
-fn most_steps(m: u64, loads: u64, others: u64, size: u64) -> u64
-    requires { ⌜ Figures m loads others size ⌝ }
-    ensures { λ r. ⌜ r ≡ ceiling loads others size m ⌝ }
+fn most_steps(m: u64, counts: Counts, size: u64) -> u64
+    requires { ⌜ Figures m (counts .loads) (counts .others) size ⌝ }
+    ensures { λ r. ⌜ r ≡ counted-ceiling (counts .loads) (counts .others) size m ⌝ }
 {
-    m * (loads * (LOAD_MOST + size) + others * OTHER_MOST)
+    m * (counts.loads * (LOAD_MOST + size) + counts.others * OTHER_MOST)
 }
 
 // The ceiling of a conversion: refused as that is before its run, but for the scratch, which no ceiling asks for.
@@ -381,10 +378,10 @@ pub fn ceiling(item: &[u8], code: &[u8], a: u64, v: u64, s: u64) -> Bound
     if refused != 0 {
         return Bound::Refused(refused);
     }
-    let verdict = grammar::check(code);
-    let Verdict::Accepted { loads, others } = verdict else {
+    let verdict = judging::check(code);
+    let Verdict::Accepted(counts) = verdict else {
         return Bound::Refused(refusal_in(verdict));
     };
     let m = 1 + inner_marks(records::part(item, a, v, s));
-    Bound::Most(most_steps(m, loads, others, item.len() as u64))
+    Bound::Most(most_steps(m, counts, item.len() as u64))
 }

@@ -10,13 +10,13 @@ use lib.Dec.{T}
 use contract.Lifetimes.{Lfts}
 use Rattle.paper.specs.Bytes.{Bytes, buffer}
 use Rattle.paper.specs.Sizes.{entry-most}
-use Rattle.paper.specs.Refusals.{Res, given, refused, refusal-of, answer-of, over-budget, stack-fault}
+use Rattle.paper.specs.Refusals.{Res, given, refused, refusal-of, answer-of, over-budget, stack-fault, mark-in-element, last-refusal}
 use Rattle.paper.specs.Records.{path, apart, replace}
 use Rattle.paper.specs.Checking.{check, report}
-use Rattle.paper.specs.Converting.{Outcome, elements, ready, convert, convert-freely, output-after, scratch-after, ceiling}
+use Rattle.paper.specs.Converting.{Outcome, elements, ready, convert, convert-freely, output-after, scratch-after, counted-ceiling}
 use Rattle.paper.proofs.Predicates.{All}
 use Rattle.paper.proofs.Budget.{Completed, defined-costs, converting-within-budget, converting-over-budget}
-use Rattle.paper.proofs.Ceiling.{steps-within-ceiling}
+use Rattle.paper.proofs.Ceiling.{steps-within-ceiling, ceiling-reported}
 use Rattle.paper.proofs.Stack.{SafeCode, checked-codes-are-safe}
 use Rattle.paper.proofs.Numbered.{early-refusals, converting-numbered, converting-told, told-refused, no-stack-fault as converting-has-no-stack-fault}
 use Rattle.paper.proofs.Replacing as replacing
@@ -104,13 +104,13 @@ module _ (κs : Lfts 5) (args : _) (r : _) (exits : _) (post : convert-call.Post
       )
 
   -- of a refusal the call returns a number of the table, of an answer 0, and 0 of nothing else
-  pub refusal-returned : (n : ℕ) → convert item code a v s budget room scratch .answer ≡ refused n → (r ≡ n) × (1 ≤ n) × (n ≤ 16)
-  refusal-returned n e = let told = converting-numbered item code a v s budget room scratch n e in (post .0 ∙ ap refusal-of e, told .0, told .1)
+  pub refusal-returned : (n : ℕ) → convert item code a v s budget room scratch .answer ≡ refused n → (r ≡ n) × (1 ≤ n) × (n ≤ last-refusal) × (n ≢ mark-in-element)
+  refusal-returned n e = let told = converting-numbered item code a v s budget room scratch n e in (post .0 ∙ ap refusal-of e, told .0, told .1, told .2)
 
   pub answer-returned : (bs : Bytes) → convert item code a v s budget room scratch .answer ≡ given bs → r ≡ 0
   answer-returned bs e = post .0 ∙ ap refusal-of e
 
-  pub number-in-table : r ≤ 16
+  pub number-in-table : (r ≤ last-refusal) × (r ≢ mark-in-element)
   number-in-table = rw (post .0) (converting-told item code a v s budget room scratch)
 
   pub zero-answered : r ≡ 0 → (bs : Bytes) × (convert item code a v s budget room scratch .answer ≡ given bs)
@@ -123,9 +123,9 @@ module _ (κs : Lfts 5) (args : _) (r : _) (exits : _) (post : convert-call.Post
   -- beside what `sundewfrill_check` gave on the same code
   module _ (κs′ : Lfts 4) (args′ : _) (r′ : _) (exits′ : _) (checked : check-call.Post κs′ args′ r′ exits′) (same : args′ .0 .now ≡ code) where
     -- the count is never above the ceiling of its A and B
-    pub steps-at-most-ceiling : steps ≤ ceiling (exits′ .1 .1 .0 .now) (exits′ .1 .1 .1 .0 .now) (length item) (length (elements item a v s))
+    pub steps-at-most-ceiling : steps ≤ counted-ceiling (exits′ .1 .1 .0 .now) (exits′ .1 .1 .1 .0 .now) (length item) (length (elements item a v s))
     steps-at-most-ceiling =
-        rw (post .1 .0, checked .1 .1 .0, checked .1 .1 .1, same) (steps-within-ceiling item code a v s budget room scratch)
+        rw (post .1 .0, checked .1 .1 .0, checked .1 .1 .1, same, ← ceiling-reported) (steps-within-ceiling item code a v s budget room scratch)
 
     accepted : r′ ≡ 0 → Accepts code
     accepted e = accepts code (sym (checked .0 ∙ ap (λ (b : Bytes). report (check b) .refusal) same) ∙ e)
@@ -158,7 +158,7 @@ module _ (κs : Lfts 3) (args : _) (r : _) (exits : _) (post : ceiling-call.Post
   abbrev asked : Res ℕ
   asked = ceiling-of (args .0 .now) (args .1 .0 .now) (args .1 .1 .0) (args .1 .1 .1 .0) (args .1 .1 .1 .1 .0)
 
-  pub ceiling-refused : (n : ℕ) → asked ≡ refused n → (r ≡ n) × (1 ≤ n) × (n ≤ 7)
+  pub ceiling-refused : (n : ℕ) → asked ≡ refused n → (r ≡ n) × (1 ≤ n) × (n ≤ stack-fault)
   unfolding ceiling-of
   ceiling-refused n e =
       let told = early-refusals (args .0 .now) (args .1 .0 .now) (args .1 .1 .0) (args .1 .1 .1 .0) (args .1 .1 .1 .1 .0) _ n e in

@@ -14,8 +14,8 @@ use Rattle.paper.specs.Converting.{Outcome}
 use Rattle.paper.specs.declared.Given.{Given}
 use Rattle.records.specs.Found.{found-of}
 use Rattle.records.specs.declared.Found.{Found}
-use Rattle.grammar.specs.Checking.{report-in}
-use Rattle.grammar.specs.declared.Verdict.{Verdict}
+use Rattle.judging.specs.Verdicts.{report-in}
+use Rattle.judging.specs.declared.Verdict.{Verdict}
 use Rattle.dates.specs.Dated.{typed-of}
 use Rattle.dates.specs.declared.TypedDay.{TypedDay}
 use Rattle.convert.specs.Gather.{converted-of}

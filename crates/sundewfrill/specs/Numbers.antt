@@ -9,9 +9,9 @@ use Rattle.paper.specs.Answers.{refusal-in, length-in}
 use Rattle.paper.specs.Numbers.{Number}
 use Rattle.paper.specs.Records.{Part, extract}
 use Rattle.paper.specs.declared.Given.{Given}
-use Rattle.grammar.specs.Checking.{report-in}
+use Rattle.judging.specs.Verdicts.{report-in}
 use Rattle.records.specs.declared.Found.{Found}
-use Rattle.grammar.specs.declared.Verdict.{Verdict}
+use Rattle.judging.specs.declared.Verdict.{Verdict}
 use Rattle.convert.specs.declared.Bound.{Bound}
 use Rattle.dates.specs.declared.TypedDay.{TypedDay}
 use Rattle.sundewfrill.specs.declared.Finding.{Finding}

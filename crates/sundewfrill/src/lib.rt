@@ -3,7 +3,7 @@
 // They take any input and have no `requires`; the work is done by the crates below, whose answers are turned into numbers here.
 use convert::Bound;
 use dates::TypedDay;
-use grammar::Verdict;
+use judging::Verdict;
 use paper::Given;
 use records::Found;
 ghost use mathlib.Core.Path.{_≡_};
@@ -107,11 +107,11 @@ fn of_verdict(verdict: Verdict) -> Checking
     ensures { λ r. ⌜ r ≡ checking-in verdict ⌝ }
 {
     match verdict {
-        Verdict::Accepted { loads, others } => Checking {
+        Verdict::Accepted(counts) => Checking {
             number: 0,
             code: 0,
-            loads,
-            others,
+            loads: counts.loads,
+            others: counts.others,
         },
         Verdict::Refused { number, code } => Checking {
             number,
@@ -206,7 +206,7 @@ pub extern "C" fn sundewfrill_check(
     ensures { λ _. ⌜ now (loads .exit) ≡ report (check (now (code .entry))) .loads ⌝ }
     ensures { λ _. ⌜ now (others .exit) ≡ report (check (now (code .entry))) .others ⌝ }
 {
-    let told = of_verdict(grammar::check(code));
+    let told = of_verdict(judging::check(code));
     *code_number = told.code;
     *loads = told.loads;
     *others = told.others;
@@ -247,7 +247,8 @@ pub extern "C" fn sundewfrill_convert<'a>(
 ) -> u64
     ensures { λ r. ⌜ r ≡ refusal-of (converted (now (item .entry)) (now (code .entry)) (now (output .entry)) (now (scratch .entry)) a v s budget .answer) ⌝ }
     ensures { λ _. ⌜ now (steps .exit) ≡ converted (now (item .entry)) (now (code .entry)) (now (output .entry)) (now (scratch .entry)) a v s budget .steps ⌝ }
-    ensures { λ _. ⌜ now (length .exit) ≡ answer-length (converted (now (item .entry)) (now (code .entry)) (now (output .entry)) (now (scratch .entry)) a v s budget .answer) ⌝ }
+    ensures { λ _. ⌜ now (length .exit) ≡ answer-length
+        (converted (now (item .entry)) (now (code .entry)) (now (output .entry)) (now (scratch .entry)) a v s budget .answer) ⌝ }
     ensures { λ _. ⌜ now (output .exit) ≡ converted-output (now (item .entry)) (now (code .entry)) (now (output .entry)) (now (scratch .entry)) a v s budget ⌝ }
     ensures { λ _. ⌜ now (scratch .exit) ≡ converted-scratch (now (scratch .entry)) ⌝ }
 {
@@ -269,7 +270,7 @@ pub extern "C" fn sundewfrill_typed_date(
     ensures { λ _. ⌜ now (negative .exit) ≡ sign-number (typed-date (now (code .entry)) (now (text .entry))) ⌝ }
     ensures { λ _. ⌜ now (size .exit) ≡ size-number (typed-date (now (code .entry)) (now (text .entry))) ⌝ }
 {
-    let told = of_day(grammar::typed_date(code, text));
+    let told = of_day(typed::typed_date(code, text));
     *negative = told.negative;
     *size = told.size;
     told.number

@@ -24,15 +24,8 @@ returns c =
 pub answer-spec : {M : Type 1} → statement M
 answer-spec =
     tie.close
-    (tie.spec
-    (λ c κs. search needs)
-    (λ c κs. search needs)
-    next-line-requires
-    (λ c κs. search needs)
-    next-line-requires-2
-    (λ c κs. search needs)
-    (λ c. search needs)
-    (λ c. search needs)
+    (tie.spec (λ c κs. search needs) (λ c κs. search needs) next-line-requires (λ c κs. search needs) next-line-requires-2 (λ c κs. search needs)
+    (λ c. search needs) (λ c. search needs)
     (λ c. omega (arith, end-inside 10 (now (c .before .before .before .before .before .front .result)) 0 (omega arith) (c .before .before .before .before .line-end .ensures)))
     (λ c. omega (arith, end-inside 10 (now (c .before .before .before .before .before .before .front .result)) (c .before .before .before .before .next-line .result) (c .before .before .before .before .next-line .ensures .0) (c .before .before .before .line-end2 .ensures)))
     (λ c. omega (arith, end-inside 10 (now (c .before .before .before .before .before .before .front .result)) (c .before .before .before .before .next-line .result) (c .before .before .before .before .next-line .ensures .0) (c .before .before .before .line-end2 .ensures)))
@@ -40,6 +33,4 @@ answer-spec =
     (λ c. omega (arith, end-inside 10 (now (c .before .before .before .before .before .before .before .front .result)) (c .before .before .before .next-line2 .result) (c .before .before .before .next-line2 .ensures .0) (c .before .before .line-end3 .ensures)))
     (λ c. omega (arith, end-inside 10 (now (c .before .before .before .before .before .before .before .front .result)) (c .before .before .before .next-line2 .result) (c .before .before .before .next-line2 .ensures .0) (c .before .before .line-end3 .ensures)))
     (λ c. omega (arith, end-inside 10 (now (c .before .before .before .before .before .before .before .front .result)) (c .before .before .before .next-line2 .result) (c .before .before .before .next-line2 .ensures .0) (c .before .before .line-end3 .ensures)))
-    (λ c κs. search needs)
-    (λ c. search needs)
-    returns)
+    (λ c κs. search needs) (λ c. search needs) returns)

@@ -4,8 +4,5 @@ use Rattle.lent.proofs.Pieces.{scan-end}
 use Rattle.console.proofs.line_end.Statement.{statement}
 use Rattle.console.proofs.line_end.Tie as tie
 
-returns : tie.Need-returns
-returns c = scan-end 10 _ _ (c .first-within .ensures)
-
 pub line-end-spec : {M : Type 1} → statement M
-line-end-spec = tie.close (tie.spec (λ c κs. search needs) returns)
+line-end-spec = tie.close (tie.spec (λ c κs. search needs) (λ c. scan-end 10 _ _ (c .first-within .ensures)))

@@ -6,23 +6,10 @@ use Rattle.console.proofs.Answering.{written}
 use Rattle.console.proofs.main.Statement.{statement}
 use Rattle.console.proofs.main.Tie as tie
 
-array-share-prefix-line : tie.Need-array-share-prefix-line
-array-share-prefix-line c = written _ _ (search needs) (c .before .answer .ensures .0) (c .before .answer .ensures .1)
-
-slice-aggregate-write-all : tie.Need-slice-aggregate-write-all
-slice-aggregate-write-all c = sym (length-take-le _ _ (written _ _ (search needs) (c .before .before .answer .ensures .0) (c .before .before .answer .ensures .1)))
-
 pub main-spec : {M : Type 1} → statement M
 main-spec =
     tie.close
-    (tie.spec
-    (λ c. search needs)
-    (λ c κs. search needs)
-    (λ c. search needs)
-    (λ c. search needs)
-    (λ c. search needs)
-    (λ c κs. search needs)
-    array-share-prefix-line
-    slice-aggregate-write-all
-    (λ c κs. search needs)
-    (λ c. search needs))
+    (tie.spec (λ c. search needs) (λ c κs. search needs) (λ c. search needs) (λ c. search needs) (λ c. search needs) (λ c κs. search needs)
+    (λ c. written _ _ (search needs) (c .before .answer .ensures .0) (c .before .answer .ensures .1))
+    (λ c. sym (length-take-le _ _ (written _ _ (search needs) (c .before .before .answer .ensures .0) (c .before .before .answer .ensures .1))))
+    (λ c κs. search needs) (λ c. search needs))

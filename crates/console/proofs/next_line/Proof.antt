@@ -4,8 +4,5 @@ use Rattle.lent.proofs.Pieces.{none-behind}
 use Rattle.console.proofs.next_line.Statement.{statement}
 use Rattle.console.proofs.next_line.Tie as tie
 
-returns-2 : tie.Need-returns-2
-returns-2 c = (c .before .pre, none-behind _ _ (c .if1 .left))
-
 pub next-line-spec : {M : Type 1} → statement M
-next-line-spec = tie.close (tie.spec (λ c. search needs) (λ c. search needs) returns-2)
+next-line-spec = tie.close (tie.spec (λ c. search needs) (λ c. search needs) (λ c. (c .before .pre, none-behind _ _ (c .if1 .left))))

@@ -1,27 +1,28 @@
 -- `number` meets its contract: its digits, and a blank behind them. Assumes nothing.
+use Prim.Native.Nat.{ℕ, _+_}
+use mathlib.Core.Path.{refl, sym, ap, _∙_}
 use native.Mathlib.Omega.{arith}
 use borrow.Author.Needs.{needs}
-use denote.Ref.{now}
-use Rattle.console.proofs.Writing.{number-room, blank-room, number-end, number-laid}
+use Rattle.paper.proofs.Numerals.{length-decimal}
+use Rattle.lent.proofs.Laws.{over-as}
+use Rattle.lent.proofs.Laying.{laid-at, laid-behind}
+use Rattle.console.specs.Lines.{numbered}
 use Rattle.console.proofs.number.Statement.{statement}
 use Rattle.console.proofs.number.Tie as tie
 
-add-end : tie.Need-add-end
-add-end c = let a = c .before .before .before .before .before .args in omega (arith, number-room (now (a .line)) (a .at) (a .n) (c .before .before .before .before .before .pre .1) (c .before .before .decimal .ensures .0))
-
-fill-requires : tie.Need-fill-requires
-fill-requires c κs = let a = c .before .before .before .before .before .before .args in blank-room (now (a .line)) (a .at) (a .n) (c .before .before .before .before .before .before .pre .1) (c .before .before .before .decimal .ensures .0) (c .before .before .before .decimal .ensures .1)
-
-add-result : tie.Need-add-result
-add-result c = let a = c .before .before .before .before .before .before .before .before .before .args in omega (arith, number-room (now (a .line)) (a .at) (a .n) (c .before .before .before .before .before .before .before .before .before .pre .1) (c .before .before .before .before .before .before .decimal .ensures .0))
-
 returns : tie.Need-returns
+unfolding numbered
 returns c =
-    let a = c .before .before .before .before .before .before .before .before .before .args in
-    let room = c .before .before .before .before .before .before .before .before .before .pre .1 in
-    let d = c .before .before .before .before .before .before .decimal .ensures in
-    (number-end (now (a .line)) (a .at) (a .n) room (d .0), number-laid (now (a .line)) (a .at) (a .n) room (d .0) (d .1) (c .before .before .fill .ensures))
+    let d = c .before .before .before .before .before .before in
+    let at = d .before .before .before .args .at in
+    let both = laid-behind (laid-at (d .decimal .ensures .1 ∙ over-as _ _ _ refl) (ap (λ (k : ℕ). at + k) (d .decimal .ensures .0))) (laid-at (c .before .before .fill .ensures) refl) (omega arith) in
+    (sym (both .place), both .bytes)
 
 pub number-spec : {M : Type 1} → statement M
 number-spec =
-    tie.close (tie.spec (λ c κs. search needs) add-end fill-requires add-result (λ c. search needs) returns)
+    tie.close
+    (tie.spec (λ c κs. search needs)
+    (λ c. omega (arith, length-decimal (c .before .before .before .before .before .args .n)))
+    (λ c κs. omega (arith, length-decimal (c .before .before .before .before .before .before .args .n)))
+    (λ c. omega (arith, length-decimal (c .before .before .before .before .before .before .before .before .before .args .n)))
+    (λ c. search needs) returns)

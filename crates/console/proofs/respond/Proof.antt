@@ -4,7 +4,7 @@ use native.Mathlib.Omega.{arith}
 use borrow.Author.Needs.{needs}
 use lib.ListN.{length}
 use Rattle.lent.specs.Over.{over}
-use Rattle.console.proofs.Answering.{lent-output, lent-scratch, refusal-short, steps-short, length-fits, answer-short, line-is, address-bad, address-good, refused-line}
+use Rattle.console.proofs.Answering.{lent-output, lent-scratch, length-fits, showable, line-is, address-bad, address-good, refused-line}
 use Rattle.console.proofs.respond.Statement.{statement}
 use Rattle.console.proofs.respond.Tie as tie
 
@@ -18,42 +18,25 @@ returns c =
     let e = refused-line _ _ (address-bad _ (c .before .before .before .before .before .before .before .before .address .ensures) (c .before .before .before .before .before .before .enum-told .given .1) (c .before .before .before .before .before .refusal .ensures)) in
     (c .before .before .show .ensures .0 ∙ ap length e, c .before .before .show .ensures .1 ∙ ap (over _ 0) e)
 
-part-show-end-2 : tie.Need-part-show-end-2
-part-show-end-2 c = omega (arith, length-fits _ _ _ _ _ (c .before .before .before .convert .ensures .0) (c .before .before .before .convert .ensures .1 .0) lent-output lent-scratch)
-
 show-requires-2 : tie.Need-show-requires-2
-show-requires-2 c κs = (
-  refusal-short _ _ _ _ _ (c .before .before .before .before .before .convert .ensures .0) (c .before .before .before .before .before .convert .ensures .1 .0) lent-output lent-scratch,
-  steps-short _ _ _ _ _ (c .before .before .before .before .before .convert .ensures .0) (c .before .before .before .before .before .convert .ensures .1 .0) lent-output lent-scratch,
-  answer-short _ _ _ _ _ (c .before .before .before .before .before .convert .ensures .0) (c .before .before .before .before .before .convert .ensures .1 .0) lent-output lent-scratch,
-  c .before .before .before .before .before .before .before .before .before .before .before .before .before .before .before .before .pre,
-)
+show-requires-2 c κs =
+    let converts = c .before .before .before .before .before in
+    let fits = showable _ _ _ _ _ (converts .convert .ensures .0) (converts .convert .ensures .1 .0) lent-output lent-scratch in
+    (fits .0, fits .1, fits .2, converts .before .before .before .before .before .before .before .before .before .before .before .pre)
 
 returns-2 : tie.Need-returns-2
 returns-2 c =
-    let e = line-is _ _ _ _ _ (c .before .before .before .before .before .before .before .before .convert .ensures .0) (c .before .before .before .before .before .before .before .before .convert .ensures .1 .0) lent-output lent-scratch (address-good _ (c .before .before .before .before .before .before .before .before .before .before .before .before .before .before .address .ensures) (c .before .before .before .before .before .before .before .before .before .before .before .before .read .given .1)) in
+    let converts = c .before .before .before .before .before .before .before .before in
+    let read = converts .before .before .before .before in
+    let e = line-is _ _ _ _ _ (converts .convert .ensures .0) (converts .convert .ensures .1 .0) lent-output lent-scratch (address-good _ (read .before .before .address .ensures) (read .read .given .1)) in
     (c .before .before .show2 .ensures .0 ∙ ap length e, c .before .before .show2 .ensures .1 ∙ ap (over _ 0) e)
 
 pub respond-spec : {M : Type 1} → statement M
 respond-spec =
     tie.close
     (tie.spec
-    (λ c κs. search needs)
-    (λ c. search needs)
-    (λ c. search needs)
-    (λ c κs. search needs)
-    (λ c. search needs)
-    (λ c. search needs)
-    (λ c. search needs)
-    show-requires
-    (λ c. search needs)
-    returns
-    (λ c. search needs)
-    (λ c. search needs)
-    (λ c κs. search needs)
-    (λ c. search needs)
-    (λ c. search needs)
-    part-show-end-2
-    show-requires-2
-    (λ c. search needs)
-    returns-2)
+    (λ c κs. search needs) (λ c. search needs) (λ c. search needs) (λ c κs. search needs) (λ c. search needs) (λ c. search needs) (λ c. search needs)
+    show-requires (λ c. search needs) returns
+    (λ c. search needs) (λ c. search needs) (λ c κs. search needs) (λ c. search needs) (λ c. search needs)
+    (λ c. let converts = c .before .before .before .convert in omega (arith, length-fits _ _ _ _ _ (converts .ensures .0) (converts .ensures .1 .0) lent-output lent-scratch))
+    show-requires-2 (λ c. search needs) returns-2)

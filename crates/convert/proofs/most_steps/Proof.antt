@@ -12,8 +12,8 @@ most-steps-spec =
     tie.close
     (tie.spec
     (λ c. search needs)
-    (λ c. omega (arith, loads-fit (c .pre)))
-    (λ c. omega (arith, others-fit (c .pre)))
-    (λ c. omega (arith, loads-fit (c .pre), others-fit (c .pre)))
-    (λ c. omega (arith, ceiling-fits (c .pre)))
+    (λ c. omega (arith, loads-fit (c .before .pre)))
+    (λ c. omega (arith, others-fit (c .before .before .pre)))
+    (λ c. omega (arith, loads-fit (c .before .before .pre), others-fit (c .before .before .pre)))
+    (λ c. omega (arith, ceiling-fits (c .before .before .pre)))
     (λ c. sym (ceiling-read _ _ _ _)))

@@ -1,6 +1,6 @@
 -- `convert::refusal_in` meets its contract: the number that the refused case carries. Assumes nothing.
 use borrow.Author.Needs.{needs}
-use Rattle.grammar.specs.Checking.{report-in}
+use Rattle.judging.specs.Verdicts.{report-in}
 use Rattle.convert.proofs.refusal_in.Statement.{statement}
 use Rattle.convert.proofs.refusal_in.Tie as tie
 

@@ -1,7 +1,7 @@
 -- `sundewfrill::of_verdict` meets its contract, case by case. Assumes nothing.
 use mathlib.Core.Path.{sym, ap}
 use borrow.Author.Needs.{needs}
-use Rattle.grammar.specs.Checking.{report-in}
+use Rattle.judging.specs.Verdicts.{report-in}
 use Rattle.sundewfrill.specs.Numbers.{checking-in}
 use Rattle.sundewfrill.proofs.of_verdict.Statement.{statement}
 use Rattle.sundewfrill.proofs.of_verdict.Tie as tie
