@@ -5,8 +5,8 @@ use mathlib.Core.Option.{some}
 use denote.Ref.{now}
 use Rattle.grammar.proofs.Answering.{heads, read-is}
 use Rattle.machine.proofs.CodeRuns.{single-within}
-use Rattle.gives.proofs.give.Statement.{statement}
-use Rattle.gives.proofs.give.Tie as tie
+use Rattle.worked.proofs.gives.give.Statement.{statement}
+use Rattle.worked.proofs.gives.give.Tie as tie
 
 give-requires : tie.Need-give-requires
 give-requires c κs =

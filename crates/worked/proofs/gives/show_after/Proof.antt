@@ -2,14 +2,15 @@
 use borrow.Author.Needs.{needs}
 use Rattle.grammar.proofs.Answering.{elms, read-is}
 use Rattle.machine.proofs.Within.{elm-reads, read-has}
-use Rattle.machine.proofs.Operands.{binary-operator}
-use Rattle.gives.proofs.show_after.Statement.{statement}
-use Rattle.gives.proofs.show_after.Tie as tie
+use Rattle.steps.proofs.Operands.{binary-operator, operator-scale}
+use Rattle.worked.proofs.gives.show_after.Statement.{statement}
+use Rattle.worked.proofs.gives.show_after.Tie as tie
 
 show-two-requires : tie.Need-show-two-requires
 show-two-requires c κs =
     let told = c .before .before .before .before .before in
-    binary-operator (read-has (elm-reads _ 0) (read-is elms (told .before .before .elm .ensures) (told .read .given .1))) (c .before .elm2 .given .1)
+    let within = read-has (elm-reads _ 0) (read-is elms (told .before .before .elm .ensures) (told .read .given .1)) in
+    operator-scale (binary-operator (rw (c .before .elm2 .given .1) at within))
 
 pub show-after-spec : {M : Type 1} → statement M
 show-after-spec =

@@ -1,16 +1,16 @@
--- `runs::show_lines` is safe and ends: each line lies within the text, and the next begins behind it. Assumes nothing.
+-- `worked::show_lines` is safe and ends: each line lies within the text, and the next begins behind it. Assumes nothing.
 use Prim.Native.Nat.{_≤_, _-_}
 use native.Mathlib.Omega.{arith}
 use borrow.Author.Needs.{needs}
 use lib.ListN.{length}
-use Rattle.runs.proofs.show_lines.Statement.{statement}
-use Rattle.runs.proofs.show_lines.Tie as tie
+use Rattle.worked.proofs.show_lines.Statement.{statement}
+use Rattle.worked.proofs.show_lines.Tie as tie
 
 abbrev Inv-loop : tie.InvT-loop
-Inv-loop text at₀ at = at ≤ length text
+Inv-loop text table₀ at₀ table at = at ≤ length text
 
 abbrev μ-loop : tie.MeasureT-loop
-μ-loop text at₀ at = length text - at
+μ-loop text table₀ at₀ table at = length text - at
 
 pub show-lines-spec : {M : Type 1} → statement M
 show-lines-spec =

@@ -1,0 +1,149 @@
+// What each code and elm gives by itself, and typed dates; a line with no bar is a remark and is not written.
+// A case is `CODE|on|ELEMENT`, `CODE|typed|DATE` or `ELM|after|ENTRY|ENTRY`: out it comes with its answer or its refusal, marks drawn.
+use crate::showing::say;
+use crate::showing::say_byte;
+use crate::showing::say_element;
+use crate::showing::say_form;
+use crate::showing::say_given;
+use crate::showing::say_number;
+use crate::showing::say_refused;
+use crate::showing::say_titled;
+use cases::field;
+use cases::first_byte;
+use cases::lines::entry_room;
+use cases::lines::spelled_field;
+use cases::long;
+use codes::Elm;
+use codes::Operator;
+use dates::TypedDay;
+use grammar::Head;
+use grammar::ReadElm;
+use grammar::ReadHead;
+use paper::Given;
+ghost use Prim.Native.Nat.{_≤_};
+ghost use lib.ListN.{length};
+ghost use Rattle.paper.specs.Sizes.{entry-most, number-digits};
+ghost use Rattle.numbers.specs.Operators.{scale-of};
+
+// What a code other than F gives on an element, at the front of the output.
+fn give(code: &[u8], e: &[u8], out: &mut [u8]) -> Given
+    requires { ⌜ (length (now e) ≤ entry-most) × (entry-most ≤ length (now out)) ⌝ }
+{
+    let read = grammar::heads::head(code);
+    let ReadHead::Head(head) = read else {
+        return Given::Refused(read.refusal());
+    };
+    let Head::Single(conversion) = head else {
+        return Given::Refused(paper::refusal::NOT_IN_GRAMMAR);
+    };
+    steps::giving::give(conversion, code, e, out)
+}
+
+fn show_conversion(line: &[u8], e: &[u8])
+    requires { ⌜ length (now e) ≤ entry-most ⌝ }
+{
+    let mut out = entry_room();
+    say_form(b"0 on ", line);
+    say_element(e);
+    let given = give(field(line, 0, b'|'), e, &mut out);
+    say_given(given, &out, long(e));
+}
+
+fn show_on(line: &[u8]) {
+    let mut e = entry_room();
+    let n = spelled_field(line, 2, true, &mut e);
+    show_conversion(line, &e[..n]);
+}
+
+fn say_day(day: TypedDay) {
+    match day {
+        TypedDay::Day { negative, size } => {
+            say(b" gives day ");
+            if negative {
+                say_byte(b'-');
+            }
+            say_number(size);
+            say_byte(b'\n');
+        }
+        TypedDay::Refused(n) => say_refused(n),
+    }
+}
+
+fn show_typed(line: &[u8]) {
+    let code = field(line, 0, b'|');
+    let date = field(line, 2, b'|');
+    say_form(b"0 typed \"2\"", line);
+    say_day(typed::typed_date(code, date));
+}
+
+// Two literals and the elm that takes them, as F has them, or only their lengths.
+fn say_two(line: &[u8], second: &[u8], top: &[u8]) {
+    if long(second) {
+        say_form(b"F with 0 on ", line);
+        say_element(second);
+        say_titled(b" and ", top.len() as u64);
+    } else {
+        say_form(b"F;'2';'3';0", line);
+    }
+}
+
+fn show_binary(line: &[u8], second: &[u8], top: &[u8], op: Operator)
+    requires { ⌜ scale-of op ≤ number-digits ⌝ }
+{
+    let mut out = entry_room();
+    say_two(line, second, top);
+    let given = numbers::entries::binary(op, second, top, &mut out);
+    say_given(given, &out, long(second));
+}
+
+fn show_two(line: &[u8], op: Operator)
+    requires { ⌜ scale-of op ≤ number-digits ⌝ }
+{
+    let mut second = entry_room();
+    let mut top = entry_room();
+    let n = spelled_field(line, 2, true, &mut second);
+    let k = spelled_field(line, 3, true, &mut top);
+    show_binary(line, &second[..n], &top[..k], op);
+}
+
+fn show_substring(line: &[u8]) {
+    let mut out = entry_room();
+    let third = field(line, 2, b'|');
+    let second = field(line, 3, b'|');
+    let top = field(line, 4, b'|');
+    say_form(b"F;'2';'3';'4';0", line);
+    let given = numbers::entries::substring(third, second, top, &mut out);
+    say_given(given, &out, false);
+}
+
+fn say_no_elm(text: &[u8], number: u64) {
+    say(text);
+    say_refused(number);
+}
+
+// An elm that takes two entries, or `[]`.
+fn show_after(line: &[u8]) {
+    let text = field(line, 0, b'|');
+    let read = grammar::elms::elm(text, 0);
+    let ReadElm::Elm { elm, next } = read else {
+        return say_no_elm(text, read.refusal());
+    };
+    if next != text.len() {
+        return say_no_elm(text, paper::refusal::NOT_IN_GRAMMAR);
+    }
+    match elm {
+        Elm::Binary(op) => show_two(line, op),
+        Elm::Substring => show_substring(line),
+        _ => say_no_elm(text, paper::refusal::NOT_IN_GRAMMAR),
+    }
+}
+
+// By the word after the first bar: `on`, `typed` or `after`.
+pub(crate) fn show(line: &[u8]) {
+    match first_byte(field(line, 1, b'|')) {
+        b'o' => show_on(line),
+        b't' => show_typed(line),
+        b'a' => show_after(line),
+        _ => {}
+    }
+}
