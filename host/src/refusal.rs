@@ -1,4 +1,4 @@
-//! The seventeen reasons for which a call refuses.
+//! The reasons for which a call refuses.
 
 use std::error::Error;
 use std::fmt;
@@ -69,12 +69,15 @@ impl Refusal {
         Refusal::MarkInNewElement,
     ];
 
-    /// The number that document 01 gives this refusal, 1 to 17.
+    /// The last of them: no call refuses with a number over its own.
+    pub const LAST: Refusal = Self::ALL[Self::ALL.len() - 1];
+
+    /// The number that document 01 gives this refusal, 1 to that of [`Refusal::LAST`].
     pub const fn number(self) -> u64 {
         self as u64
     }
 
-    /// The refusal with this number; `None` for 0 and for numbers over 17.
+    /// The refusal with this number; `None` for 0 and for numbers over the last one's.
     pub fn from_number(number: u64) -> Option<Refusal> {
         let place = usize::try_from(number.checked_sub(1)?).ok()?;
         Self::ALL.get(place).copied()
@@ -157,9 +160,11 @@ mod tests {
             assert_eq!(refusal.number(), place as u64 + 1);
             assert_eq!(Refusal::from_number(refusal.number()), Some(refusal));
         }
-        assert_eq!(Refusal::from_number(17), Some(Refusal::MarkInNewElement));
+        assert_eq!(Refusal::LAST, Refusal::MarkInNewElement);
+        assert_eq!(Refusal::LAST.number(), 17);
+        assert_eq!(Refusal::LAST.number(), Refusal::ALL.len() as u64);
         assert_eq!(Refusal::from_number(0), None);
-        assert_eq!(Refusal::from_number(18), None);
+        assert_eq!(Refusal::from_number(Refusal::LAST.number() + 1), None);
         assert_eq!(Refusal::from_number(u64::MAX), None);
     }
 
