@@ -131,6 +131,7 @@ fn far_pass(item: &[u8], from: usize, mark: Mark, n: u64) -> Stop
 }
 
 // Past n marks. A short record is walked byte by byte: tests of blocks would cost more than they save.
+// Here and below `&*` lends the record anew to the scan by blocks, so that the one at hand stays in registers.
 fn pass(item: &[u8], from: usize, mark: Mark, n: u64) -> Stop
     requires { ⌜ (from ≤ length (now item)) × (mark .byte ≤ attribute-mark) ⌝ }
     ensures { λ r. ⌜ r ≡ skip (mark .byte) (drop from (now (item .entry))) from n ⌝ }
@@ -139,7 +140,7 @@ fn pass(item: &[u8], from: usize, mark: Mark, n: u64) -> Stop
     if item.len() < SHORT {
         return skip(item, from, mark, n);
     }
-    far_pass(item, from, mark, n)
+    far_pass(&*item, from, mark, n)
 }
 
 // Whether a byte x or y is there. No early exit and a flag as wide as a byte, so that it is compiled to SIMD.
@@ -224,7 +225,7 @@ fn piece_end(item: &[u8], at: usize, mark: Mark) -> usize
     if size < SHORT {
         return first_within(item, at, size, mark.byte, Mark::ATTRIBUTE.byte);
     }
-    far_within(item, at, size, mark.byte, Mark::ATTRIBUTE.byte)
+    far_within(&*item, at, size, mark.byte, Mark::ATTRIBUTE.byte)
 }
 
 // That piece, and the marks still to be made in front of it.
@@ -250,7 +251,7 @@ fn attribute(item: &[u8], a: u64) -> Stop
     if item.len() < SHORT {
         return skip(item, 0, Mark::ATTRIBUTE, a);
     }
-    far_pass(item, 0, Mark::ATTRIBUTE, a)
+    far_pass(&*item, 0, Mark::ATTRIBUTE, a)
 }
 
 // Inside the value that begins at a place: "s = 0 the whole value".
