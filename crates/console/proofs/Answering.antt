@@ -21,7 +21,7 @@ use Rattle.paper.proofs.Budget.{steps-within-budget}
 use Rattle.paper.proofs.Numbered.{converting-told}
 use Rattle.lent.specs.Over.{over}
 use Rattle.lent.proofs.Laws.{length-over}
-use Rattle.convert.specs.Gather.{converted-of}
+use Rattle.convert.specs.Finishing.{converted-of}
 use Rattle.convert.specs.declared.Converted.{Converted}
 use Rattle.grammar.specs.Addresses.{address-read, address-refusal}
 use Rattle.grammar.specs.declared.ReadAddress.{ReadAddress}

@@ -3,7 +3,7 @@ use mathlib.Core.Path.{_≡_, refl}
 use Rattle.paper.specs.Bytes.{Bytes}
 use Rattle.paper.specs.Checking.{Checked, accepted, faulty, check, codes-of, report}
 use Rattle.paper.proofs.Numbered.{faults-are-numbered}
-use Rattle.convert.specs.Running.{codes-in, Accepts}
+use Rattle.elements.specs.Running.{codes-in, Accepts}
 
 pub accepts : (string : Bytes) → report (check string) .refusal ≡ 0 → Accepts string
 unfolding codes-in report

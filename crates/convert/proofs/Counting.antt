@@ -23,11 +23,12 @@ use Rattle.judging.specs.declared.Verdict.{Verdict}
 use Rattle.judging.specs.declared.Counts.{Counts}
 use Rattle.judging.proofs.Walking.{accepted-steps}
 use Rattle.records.specs.Found.{lawful-find}
-use Rattle.convert.specs.Walk.{in-front, walked, inner-marks}
-use Rattle.convert.specs.Gather.{refused-at-once}
+use Rattle.convert.specs.Marks.{inner-marks}
+use Rattle.elements.specs.Walk.{in-front, walked}
+use Rattle.convert.specs.Finishing.{refused-at-once}
 use Rattle.convert.specs.Ceiling.{Figures, ceiling-of, ceiling-told}
 use Rattle.convert.specs.declared.Bound.{Bound}
-use Rattle.convert.proofs.Walking.{elements-walked}
+use Rattle.elements.proofs.Walking.{elements-walked}
 use Rattle.convert.proofs.Stages.{refused-ready, lawful-numbers, reads-short}
 
 -- one byte more of the bytes passed

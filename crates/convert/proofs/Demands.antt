@@ -18,8 +18,8 @@ use Rattle.paper.proofs.Stack.{SafeCode, checked-codes-are-safe}
 use Rattle.paper.proofs.Numbered.{converting-numbered, converting-told, told-refused, no-stack-fault as converting-has-no-stack-fault}
 use Rattle.judging.specs.Verdicts.{report-in}
 use Rattle.judging.proofs.check.Reads as check-call
-use Rattle.convert.specs.Gather.{converted-of}
-use Rattle.convert.specs.Running.{codes-in, Accepts}
+use Rattle.convert.specs.Finishing.{converted-of}
+use Rattle.elements.specs.Running.{codes-in, Accepts}
 use Rattle.convert.specs.Ceiling.{ceiling-of, ceiling-told}
 use Rattle.convert.specs.declared.Bound.{Bound}
 use Rattle.convert.specs.declared.Converted.{Converted}

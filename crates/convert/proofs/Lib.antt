@@ -2,10 +2,5 @@ pub mod Accepting
 pub mod Answering
 pub mod Counting
 pub mod Demands
-pub mod Elements
-pub mod Gathering
-pub mod Looping
 pub mod Settled
 pub mod Stages
-pub mod Turning
-pub mod Walking

@@ -24,13 +24,13 @@ use Rattle.records.specs.Found.{lawful-find}
 use Rattle.judging.specs.Verdicts.{verdict-of, report-in}
 use Rattle.judging.specs.declared.Verdict.{Verdict}
 use Rattle.judging.specs.declared.Counts.{Counts}
-use Rattle.convert.specs.Gather.{converted-of, refused-at-once, finished-as, finished-out}
+use Rattle.convert.specs.Finishing.{converted-of, refused-at-once, finished-as, finished-out}
 use Rattle.convert.specs.declared.Converted.{Converted}
 use Rattle.convert.proofs.Answering.{finished-outcome}
-use Rattle.convert.specs.Running.{codes-in, Accepts, elements-outcome, position, Walks}
-use Rattle.convert.specs.declared.Walked.{Walked}
-use Rattle.convert.specs.Walk.{walked}
-use Rattle.convert.proofs.Walking.{elements-walked}
+use Rattle.elements.specs.Running.{codes-in, Accepts, elements-outcome, position, Walks}
+use Rattle.elements.specs.declared.Walked.{Walked}
+use Rattle.elements.specs.Walk.{walked}
+use Rattle.elements.proofs.Walking.{elements-walked}
 
 -- what an accepting or refusing verdict says of the paper's check
 pub accepted-by : (string : Bytes) (c : Checked) {counts : Counts} → check string ≡ c → Verdict.Accepted counts ≡ verdict-of c → Accepts string

@@ -1,4 +1,3 @@
 pub mod Ceiling
-pub mod Gather
-pub mod Running
-pub mod Walk
+pub mod Finishing
+pub mod Marks

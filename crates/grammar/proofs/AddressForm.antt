@@ -8,10 +8,10 @@ use native.Mathlib.Omega.{arith}
 use Rattle.paper.specs.Bytes.{Bytes, if_then_else_}
 use Rattle.paper.specs.Grammar as paper
 use Rattle.paper.specs.Program.{Address, address-form}
-use Rattle.grammar.specs.Places.{Placed, follow, this, numeral}
+use Rattle.readers.specs.Places.{Placed, follow, this, numeral}
 use Rattle.grammar.specs.Addresses.{another, address}
-use Rattle.grammar.proofs.Agreement.{Agree, neither, both, Agrees, gives-agrees, follow-agrees, numeral-agrees, this-agrees}
-use Rattle.grammar.proofs.Bytes.{left-none}
+use Rattle.readers.proofs.Agreement.{Agree, neither, both, Agrees, gives-agrees, follow-agrees, numeral-agrees, this-agrees}
+use Rattle.readers.proofs.Bytes.{left-none}
 
 module _ {s : Bytes} {low : ℕ} where
   another-agrees : {k : ℕ → Placed Address} {k′ : ℕ → paper.Reader Address} → ((v : ℕ) → Agrees (λ (p : Address). p) s low (k v) (k′ v))

@@ -13,13 +13,13 @@ use Rattle.paper.specs.Grammar as paper
 use Rattle.paper.specs.Codes as codes
 use Rattle.codes.specs.Meaning.{conversion-of}
 use Rattle.codes.specs.declared.Conversion.{Conversion}
-use Rattle.grammar.specs.Places.{byte-at}
-use Rattle.grammar.specs.Reading as place
+use Rattle.readers.specs.Places.{byte-at}
+use Rattle.readers.specs.Reading as place
 use Rattle.grammar.specs.Heads.{whole, head, elms-from}
 use Rattle.grammar.specs.declared.Head.{Head}
-use Rattle.grammar.proofs.Bytes.{left-none}
-use Rattle.grammar.proofs.Agreement.{Agree, neither, both}
-use Rattle.grammar.proofs.AgreementLines.{conversion-reads}
+use Rattle.readers.proofs.Bytes.{left-none}
+use Rattle.readers.proofs.Agreement.{Agree, neither, both}
+use Rattle.readers.proofs.AgreementLines.{conversion-reads}
 
 abbrev pub functioned : Option (List codes.Elm) → Option codes.Code
 functioned none = none

@@ -1,4 +1,4 @@
--- The lines of the grammar that take more than their parts: the byte of a fill, and a literal's quote.
+-- The line of the grammar of elms that takes more than its parts: a literal's quote.
 use Prim.Native.Nat.{ℕ, _<_, _≤_, _+_, _-_}
 use mathlib.Core.Path.{_≡_, refl, ap}
 use mathlib.Core.Option.{none, some}
@@ -9,18 +9,9 @@ use borrow.Author.Tests.{eq-eqb, ne-eqb}
 use Rattle.paper.specs.Bytes.{Bytes}
 use Rattle.codes.specs.declared.Operand.{Operand}
 use Rattle.codes.specs.declared.Elm.{Elm}
-use Rattle.grammar.specs.Reading.{fill-byte, fill-field, fill-width, closing, placed-literal, literal-elm}
+use Rattle.grammar.specs.Reading.{closing, placed-literal, literal-elm}
 
 module _ (s : Bytes) (at : ℕ) where
-  -- `(fill num)`
-  pub width-by : (fill n : ℕ) → fill-byte s at ≡ some (fill, n) → fill-width s at ≡ fill-field fill s n
-  unfolding fill-width
-  width-by fill n e = rw e
-
-  pub width-none : fill-byte s at ≡ none → fill-width s at ≡ none
-  unfolding fill-width
-  width-none e = rw e
-
   -- a literal's quote: here, further on, nowhere
   pub closing-here : (q : ℕ) → at < length s → getD s at 0 ≡ q → closing q (drop at s) at ≡ some at
   unfolding closing

@@ -13,12 +13,12 @@ use Rattle.paper.specs.Grammar as paper
 use Rattle.paper.specs.Codes as codes
 use Rattle.codes.specs.Meaning.{elm-of}
 use Rattle.codes.specs.declared.Elm.{Elm}
-use Rattle.grammar.specs.Places.{Peeked}
+use Rattle.readers.specs.Places.{Peeked}
 use Rattle.grammar.specs.Reading as place
 use Rattle.grammar.specs.Heads.{elms-from}
-use Rattle.grammar.proofs.Bytes.{ahead-of}
-use Rattle.grammar.proofs.Taken.{some-one}
-use Rattle.grammar.proofs.Agreement.{Agree, neither, both}
+use Rattle.readers.proofs.Bytes.{ahead-of}
+use Rattle.readers.proofs.Taken.{some-one}
+use Rattle.readers.proofs.Agreement.{Agree, neither, both}
 use Rattle.grammar.proofs.AgreementLines.{elm-reads}
 
 -- what is known of the paper's elm from the elm by place

@@ -4,7 +4,7 @@ use mathlib.Core.Option.{Option, none, some}
 use Rattle.paper.specs.Bytes.{ch}
 use Rattle.paper.specs.Refusals.{bad-address}
 use Rattle.paper.specs.Program.{Address}
-use Rattle.grammar.specs.Places.{Placed, _>>=_, _>>_, gives, this, numeral}
+use Rattle.readers.specs.Places.{Placed, _>>=_, _>>_, gives, this, numeral}
 use Rattle.grammar.specs.declared.ReadAddress.{ReadAddress}
 
 -- a comma and a number

@@ -1,44 +1,15 @@
--- What each case of a reader's answer is: the thing read with the place after it, or refusal 6, "a code is not in the grammar".
+-- What each case of the answer to reading an elm is: the elm with the place after it, or refusal 6, "a code is not in the grammar".
 use Prim.Native.Nat.{ℕ}
 use mathlib.Core.Option.{Option, none, some}
 use Rattle.paper.specs.Refusals.{not-in-grammar}
-use Rattle.codes.specs.declared.Fill.{Fill}
-use Rattle.codes.specs.declared.Conversion.{Conversion}
 use Rattle.codes.specs.declared.Elm.{Elm}
-use Rattle.grammar.specs.declared.ReadNum.{ReadNum}
-use Rattle.grammar.specs.declared.ReadFill.{ReadFill}
-use Rattle.grammar.specs.declared.ReadConversion.{ReadConversion}
 use Rattle.grammar.specs.declared.ReadElm.{ReadElm}
-
-unfoldable pub num-read : Option (ℕ × ℕ) → ReadNum
-num-read none = ReadNum.Refused not-in-grammar
-num-read (some r) = ReadNum.Num (r .0) (r .1)
-
-unfoldable pub fill-read : Option (Fill × ℕ) → ReadFill
-fill-read none = ReadFill.Refused not-in-grammar
-fill-read (some r) = ReadFill.Fill (r .0) (r .1)
-
-unfoldable pub conversion-read : Option (Conversion × ℕ) → ReadConversion
-conversion-read none = ReadConversion.Refused not-in-grammar
-conversion-read (some r) = ReadConversion.Conversion (r .0) (r .1)
 
 unfoldable pub elm-read : Option (Elm × ℕ) → ReadElm
 elm-read none = ReadElm.Refused not-in-grammar
 elm-read (some r) = ReadElm.Elm (r .0) (r .1)
 
 -- the number that each case carries: "A number not given here, by any call, is 0"
-abbrev pub num-refusal : ReadNum → ℕ
-num-refusal (ReadNum.Num value next) = 0
-num-refusal (ReadNum.Refused number) = number
-
-abbrev pub fill-refusal : ReadFill → ℕ
-fill-refusal (ReadFill.Fill fill next) = 0
-fill-refusal (ReadFill.Refused number) = number
-
-abbrev pub conversion-refusal : ReadConversion → ℕ
-conversion-refusal (ReadConversion.Conversion conversion next) = 0
-conversion-refusal (ReadConversion.Refused number) = number
-
 abbrev pub elm-refusal : ReadElm → ℕ
 elm-refusal (ReadElm.Elm elm next) = 0
 elm-refusal (ReadElm.Refused number) = number

@@ -10,8 +10,8 @@ use Rattle.paper.specs.Refusals.{not-in-grammar}
 use Rattle.paper.specs.Codes as paper
 use Rattle.paper.specs.Grammar.{elms, all-read}
 use Rattle.codes.specs.declared.Conversion.{Conversion}
-use Rattle.grammar.specs.Places.{byte-at}
-use Rattle.grammar.specs.Reading.{conversion}
+use Rattle.readers.specs.Places.{byte-at}
+use Rattle.readers.specs.Reading.{conversion}
 use Rattle.grammar.specs.declared.Head.{Head}
 use Rattle.grammar.specs.declared.ReadHead.{ReadHead}
 

@@ -1,14 +1,13 @@
 // A typed address, as line 2 of the program has it (document 01, "Examples on both sides").
 use crate::ReadAddress;
-use crate::ReadNum;
-use crate::places::numeral;
-use crate::places::peek;
+use readers::ReadNum;
+use readers::places::numeral;
+use readers::places::peek;
 ghost use mathlib.Core.Path.{_≡_};
 ghost use Rattle.paper.specs.Grammar.{all-read};
 ghost use Rattle.paper.specs.Program.{address-form};
-ghost use Rattle.grammar.specs.Places.{numeral};
 ghost use Rattle.grammar.specs.Addresses.{another, address-read};
-ghost use Rattle.grammar.specs.Answers.{num-read};
+ghost use Rattle.readers.specs.Answers.{num-read};
 
 // "numbers of 1 to 5 digits": the digits after the first.
 const MORE: u64 = 4;

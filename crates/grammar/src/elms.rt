@@ -1,18 +1,18 @@
 // Document 01, "The code grammar": an elm of F, read forward: nothing is cut at `;` or `)` first.
-use crate::ReadConversion;
 use crate::ReadElm;
-use crate::ReadNum;
 use crate::Repeats;
-use crate::conversions::conversion;
-use crate::places::digit;
-use crate::places::numeral;
-use crate::places::peek;
 use codes::Arithmetic;
 use codes::Elm;
 use codes::Operand;
 use codes::Operator;
 use codes::Relation;
 use codes::Repeat;
+use readers::ReadConversion;
+use readers::ReadNum;
+use readers::conversions::conversion;
+use readers::places::digit;
+use readers::places::numeral;
+use readers::places::peek;
 ghost use mathlib.Core.Path.{_≡_};
 ghost use mathlib.Core.Option.{some};
 ghost use Rattle.grammar.specs.Answers.{elm-read};

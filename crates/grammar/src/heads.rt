@@ -1,11 +1,11 @@
 // Document 01, "The code grammar": what one whole code begins with, and where a code of a string ends.
 use crate::Head;
-use crate::ReadConversion;
 use crate::ReadHead;
-use crate::conversions::conversion;
-use crate::places::peek;
 use lent::first_within;
 use paper::Mark;
+use readers::ReadConversion;
+use readers::conversions::conversion;
+use readers::places::peek;
 ghost use mathlib.Core.Path.{_≡_};
 ghost use Prim.Native.Nat.{_≤_};
 ghost use lib.ListN.{length, drop};

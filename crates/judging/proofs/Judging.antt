@@ -18,7 +18,7 @@ use Rattle.codes.specs.declared.Elm.{Elm}
 use Rattle.grammar.specs.Reading as place
 use Rattle.grammar.specs.Heads.{head, elms-from}
 use Rattle.grammar.specs.declared.Head.{Head}
-use Rattle.grammar.proofs.Bytes.{peeked-inside}
+use Rattle.readers.proofs.Bytes.{peeked-inside}
 use Rattle.grammar.proofs.Parted.{elm-onto, elms-none, elms-last, elms-more, elms-stray}
 use Rattle.grammar.proofs.HeadReads.{functioned, read-by, head-reads, marks-read}
 use Rattle.judging.specs.Tallies.{counts-in, none-yet, tally-after, tally-all, judgement-of}

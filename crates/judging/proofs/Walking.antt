@@ -17,7 +17,7 @@ use Rattle.paper.specs.Codes as codes
 use Rattle.paper.specs.Checking.{lawful, judged, judged-all, in-turn, check, Checked, accepted, faulty, code-counts, codes-counts, attribute-loads, other-steps}
 use Rattle.codes.specs.Meaning.{elm-of}
 use Rattle.codes.specs.declared.Elm.{Elm}
-use Rattle.grammar.specs.Places.{byte-at, after}
+use Rattle.readers.specs.Places.{byte-at, after}
 use Rattle.grammar.specs.Reading as place
 use Rattle.grammar.specs.Heads.{elms-from, code-end}
 use Rattle.paper.proofs.Truths.{ltb-or}

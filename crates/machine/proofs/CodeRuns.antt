@@ -22,12 +22,12 @@ use Rattle.paper.specs.Converting.{within-budget}
 use Rattle.codes.specs.declared.Conversion.{Conversion as Converted}
 use Rattle.codes.specs.Meaning.{conversion-of}
 use Rattle.grammar.specs.declared.Head.{Head}
-use Rattle.grammar.specs.Places.{byte-at}
-use Rattle.grammar.specs.Reading as place
+use Rattle.readers.specs.Places.{byte-at}
+use Rattle.readers.specs.Reading as place
 use Rattle.grammar.specs.Heads.{whole, head, elms-from}
 use Rattle.grammar.proofs.HeadReads.{functioned, read-by, head-reads, marks-read}
 use Rattle.stack.specs.Slots.{element-slot, entry-at}
-use Rattle.steps.specs.Bounds.{Conversion-within}
+use Rattle.giving.specs.Bounds.{Conversion-within}
 use Rattle.stack.specs.declared.Charge.{Charge}
 use Rattle.machine.specs.declared.Meter.{Meter}
 use Rattle.stack.specs.Charging.{taken-most, charge-of, charge-refusal, handed, taken-one}

@@ -22,7 +22,7 @@ use Rattle.grammar.specs.Heads.{head, code-end}
 use Rattle.grammar.proofs.Cuts.{split-last}
 use Rattle.machine.specs.declared.Plan.{Plan}
 use Rattle.steps.specs.declared.Position.{Position}
-use Rattle.steps.specs.Bounds.{Conversion-within}
+use Rattle.giving.specs.Bounds.{Conversion-within}
 use Rattle.steps.specs.Stepping.{setting}
 use Rattle.machine.specs.Runs.{converting, Judged-well, checked-run, Accepted}
 use Rattle.machine.specs.Plans.{planned, plan-of}

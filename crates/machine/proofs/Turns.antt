@@ -21,10 +21,10 @@ use Rattle.paper.proofs.Entries.{Fit, steps-within}
 use Rattle.paper.proofs.Runs.{resumed, budget-onward}
 use Rattle.codes.specs.declared.Elm.{Elm as Coded}
 use Rattle.codes.specs.Meaning.{elm-of}
-use Rattle.grammar.specs.Places.{byte-at, after, Peeked}
+use Rattle.readers.specs.Places.{byte-at, after, Peeked}
 use Rattle.grammar.specs.Reading as place
 use Rattle.grammar.specs.Heads.{elms-from}
-use Rattle.grammar.proofs.Bytes.{after-inside}
+use Rattle.readers.proofs.Bytes.{after-inside}
 use Rattle.grammar.proofs.Parted.{elm-onto, elm-within, elms-none, elms-last, elms-more, elms-stray}
 use Rattle.stack.specs.declared.Step.{Step}
 use Rattle.machine.specs.declared.Ran.{Ran}

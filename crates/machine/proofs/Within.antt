@@ -16,10 +16,12 @@ use Rattle.codes.specs.declared.Plain.{Plain}
 use Rattle.codes.specs.declared.Fill.{Fill}
 use Rattle.codes.specs.Meaning.{fill-of, mask-of}
 use Rattle.masks.specs.Bounds.{field-width}
-use Rattle.grammar.specs.Places.{Placed, byte-at, after, follow, follow-or, only-if, choose-or, this, flag, digit, num, numeral}
-use Rattle.grammar.specs.Reading as place
-use Rattle.grammar.proofs.Taken.{digit-small}
-use Rattle.steps.specs.Bounds.{attribute-within, literal-within, previous-within, multiply-within, divide-within, rest-within, add-within, subtract-within, arithmetic-within, concatenate-within, relate-within, Conversion-within, plain-within, mask-within, date-within, Elm-within, push-within, binary-within, substring-within, exchange-within, duplicate-within, convert-within}
+use Rattle.readers.specs.Places.{Placed, byte-at, after, follow, follow-or, only-if, choose-or, this, flag, digit, num, numeral}
+use Rattle.readers.specs.Reading as place
+use Rattle.readers.proofs.Taken.{digit-small}
+use Rattle.grammar.specs.Reading as elms
+use Rattle.giving.specs.Bounds.{Conversion-within, plain-within, mask-within, date-within}
+use Rattle.steps.specs.Bounds.{attribute-within, literal-within, previous-within, multiply-within, divide-within, rest-within, add-within, subtract-within, arithmetic-within, concatenate-within, relate-within, Elm-within, push-within, binary-within, substring-within, exchange-within, duplicate-within, convert-within}
 
 pub read-has : {A : Type 0} {P : A → Type 0} {o : Option (A × ℕ)} {a : A} {n : ℕ} → Reads P o → o ≡ some (a, n) → P a
 read-has {A} {P} {o} {a} {n} p e = has (rw e at p)
@@ -150,29 +152,29 @@ module _ (s : Bytes) where
       (λ n. reads-not)
 
   -- a quote closes at a byte from here on
-  closes : (q : ℕ) (bs : Bytes) (at close : ℕ) → place.closing q bs at ≡ some close → (at ≤ close) × (close < at + length bs)
-  unfolding place.closing
+  closes : (q : ℕ) (bs : Bytes) (at close : ℕ) → elms.closing q bs at ≡ some close → (at ≤ close) × (close < at + length bs)
+  unfolding elms.closing
   closes q [] at close e = let z : _≡_ {A = ℕ} 0 1 = cc in absurd (omega arith)
   closes q (b ∷ bs) at close e = here (eqb b q) e (closes q bs (suc at) close)
     where
-      here : (t : Bool) → (if t then some at else place.closing q bs (suc at)) ≡ some close
-          → (place.closing q bs (suc at) ≡ some close → (suc at ≤ close) × (close < suc at + length bs)) → (at ≤ close) × (close < at + length (b ∷ bs))
+      here : (t : Bool) → (if t then some at else elms.closing q bs (suc at)) ≡ some close
+          → (elms.closing q bs (suc at) ≡ some close → (suc at ≤ close) × (close < suc at + length bs)) → (at ≤ close) × (close < at + length (b ∷ bs))
       here true e again = let same : at ≡ close = cc in omega arith
       here false e again = let h = again e in omega arith
 
-  literal-reads : (q : ℕ) → Ever (Elm-within s) s (place.literal-elm q)
-  unfolding place.literal-elm
-  literal-reads q n = placed (place.closing q (drop n s) n) refl
+  literal-reads : (q : ℕ) → Ever (Elm-within s) s (elms.literal-elm q)
+  unfolding elms.literal-elm
+  literal-reads q n = placed (elms.closing q (drop n s) n) refl
     where
-      placed : (o : Option ℕ) → place.closing q (drop n s) n ≡ o → Reads (Elm-within s) (place.placed-literal n o)
+      placed : (o : Option ℕ) → elms.closing q (drop n s) n ≡ o → Reads (Elm-within s) (elms.placed-literal n o)
       placed none e = reads-not
       placed (some close) e =
           let h = closes q (drop n s) n close e in
           reads (push-within (literal-within {start = n} {len = close - n} (omega (arith, length-drop n s))))
 
   -- the elms of one byte
-  single-reads : Ever (Elm-within s) s place.single-elm
-  unfolding place.single-elm
+  single-reads : Ever (Elm-within s) s elms.single-elm
+  unfolding elms.single-elm
   single-reads =
       choose-reads _
       (and-all (λ n. reads (binary-within (arithmetic-within divide-within)))
@@ -189,8 +191,8 @@ module _ (s : Bytes) where
       (and-all (λ n. reads (binary-within relate-within)) none-of))))))))))))
       (λ n. reads-not)
 
-  longer-reads : Ever (Elm-within s) s place.longer-elm
-  unfolding place.longer-elm place.previous-elm place.multiply-elm place.bracket-elm place.converting-elm
+  longer-reads : Ever (Elm-within s) s elms.longer-elm
+  unfolding elms.longer-elm elms.previous-elm elms.multiply-elm elms.bracket-elm elms.converting-elm
   longer-reads =
       choose-reads _
       (and-all (literal-reads 39)
@@ -202,6 +204,6 @@ module _ (s : Bytes) where
       single-reads
 
   -- what an elm's reader reads
-  pub elm-reads : Ever (Elm-within s) s place.elm
-  unfolding place.elm place.attribute-elm
-  elm-reads n = or-any (numeral 2 s n) _ _ (λ d k. follow-any (place.repeats s k) _ (λ r j. reads (push-within attribute-within))) (longer-reads n)
+  pub elm-reads : Ever (Elm-within s) s elms.elm
+  unfolding elms.elm elms.attribute-elm
+  elm-reads n = or-any (numeral 2 s n) _ _ (λ d k. follow-any (elms.repeats s k) _ (λ r j. reads (push-within attribute-within))) (longer-reads n)

@@ -12,14 +12,12 @@ use Rattle.codes.specs.declared.Repeat.{Repeat}
 use Rattle.codes.specs.declared.Operand.{Operand}
 use Rattle.codes.specs.declared.Arithmetic.{Arithmetic}
 use Rattle.codes.specs.declared.Operator.{Operator}
-use Rattle.codes.specs.declared.Mask.{Mask}
-use Rattle.codes.specs.declared.Separator.{Separator}
 use Rattle.codes.specs.declared.Conversion.{Conversion}
 use Rattle.codes.specs.declared.Elm.{Elm}
-use Rattle.masks.specs.Bounds.{Bounded}
-use Rattle.codes.specs.Meaning.{mask-of, repeat-of, operand-of}
+use Rattle.codes.specs.Meaning.{repeat-of, operand-of}
 use Rattle.numbers.specs.Operators.{scales, scale-of}
-use Rattle.steps.specs.Bounds.{Operand-within, literal-within, Arithmetic-within, multiply-within, divide-within, rest-within, add-within, subtract-within, Operator-within, arithmetic-within, concatenate-within, relate-within, Conversion-within, mask-within, date-within, Elm-within, push-within, binary-within, convert-within}
+use Rattle.giving.specs.Bounds.{Conversion-within}
+use Rattle.steps.specs.Bounds.{Operand-within, literal-within, Arithmetic-within, multiply-within, divide-within, rest-within, add-within, subtract-within, Operator-within, arithmetic-within, concatenate-within, relate-within, Elm-within, push-within, binary-within, convert-within}
 use Rattle.stack.proofs.Putting.{from-to}
 
 -- the value and the subvalue that are loaded
@@ -70,13 +68,6 @@ pub operator-scale : {o : Operator} → Operator-within o → scale-of o ≤ num
 operator-scale (arithmetic-within h) = arithmetic-scale h
 operator-scale concatenate-within = omega arith
 operator-scale relate-within = omega arith
-
--- a mask's numbers and a date's digits
-pub mask-bounded : {code : Bytes} {m : Mask} → Conversion-within code (Conversion.Mask m) → Bounded (mask-of m)
-mask-bounded (mask-within h) = h
-
-pub date-digits : {code : Bytes} {n : ℕ} {s : Separator} → Conversion-within code (Conversion.Date n s) → n ≤ 4
-date-digits (date-within h) = h
 
 -- the operand, operator and code of an elm
 pub push-operand : {code : Bytes} {o : Operand} → Elm-within code (Elm.Push o) → Operand-within code o

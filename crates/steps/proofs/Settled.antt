@@ -3,13 +3,8 @@
 use mathlib.Core.Path.{_≡_, sym, _∙_}
 use contract.Lifetimes.{Lfts}
 use Rattle.stack.proofs.Settled.{Same-step, same-step}
-use Rattle.steps.proofs.giving.give.Reads as give
 use Rattle.steps.proofs.loading.operand.Reads as operand
 use Rattle.steps.proofs.stepping.step.Reads as step
-
-give-settled : (κs : Lfts 3) → (a : _) (r r′ : _) (e e′ : _) → give.Post κs a r e → give.Post κs a r′ e′
-    → (r ≡ r′) × (e .1 .1 .1 .0 .now ≡ e′ .1 .1 .1 .0 .now)
-give-settled κs a r r′ e e′ p q = (p .0 ∙ sym (q .0), p .1 ∙ sym (q .1))
 
 operand-settled : (κs : Lfts 1) → (a : _) (r r′ : _) (e e′ : _) → operand.Post κs a r e → operand.Post κs a r′ e′ → r .now ≡ r′ .now
 operand-settled κs a r r′ e e′ p q = p ∙ sym q

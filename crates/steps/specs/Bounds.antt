@@ -5,15 +5,11 @@ use Rattle.paper.specs.Bytes.{Bytes}
 use Rattle.codes.specs.declared.Relation.{Relation}
 use Rattle.codes.specs.declared.Arithmetic.{Arithmetic}
 use Rattle.codes.specs.declared.Operator.{Operator}
-use Rattle.codes.specs.declared.Mask.{Mask}
-use Rattle.codes.specs.declared.Plain.{Plain}
-use Rattle.codes.specs.declared.Separator.{Separator}
 use Rattle.codes.specs.declared.Conversion.{Conversion}
 use Rattle.codes.specs.declared.Repeat.{Repeat}
 use Rattle.codes.specs.declared.Operand.{Operand}
 use Rattle.codes.specs.declared.Elm.{Elm}
-use Rattle.codes.specs.Meaning.{mask-of}
-use Rattle.masks.specs.Bounds.{Bounded}
+use Rattle.giving.specs.Bounds.{Conversion-within}
 
 -- a literal lies within its code
 pub data Operand-within (code : Bytes) : Operand → Type 0 where
@@ -33,12 +29,6 @@ pub data Operator-within : Operator → Type 0 where
   arithmetic-within : {a : Arithmetic} → Arithmetic-within a → Operator-within (Operator.Arithmetic a)
   concatenate-within : Operator-within Operator.Concatenate
   relate-within : {r : Relation} → Operator-within (Operator.Relate r)
-
--- a mask as `masks` takes it; "`D{n}{s}`, n 0 to 4"; what points into the code lies within it
-pub data Conversion-within (code : Bytes) : Conversion → Type 0 where
-  plain-within : {p : Plain} → Conversion-within code (Conversion.Plain p)
-  mask-within : {m : Mask} → Bounded (mask-of m) → Conversion-within code (Conversion.Mask m)
-  date-within : {n : ℕ} {s : Separator} → n ≤ 4 → Conversion-within code (Conversion.Date n s)
 
 pub data Elm-within (code : Bytes) : Elm → Type 0 where
   push-within : {o : Operand} → Operand-within code o → Elm-within code (Elm.Push o)

@@ -1,6 +1,5 @@
-// One step of an F code, and what a code other than F gives on an element (document 01, "What each code gives" and "Steps").
+// One step of an F code (document 01, "Steps").
 // Every statement is an equality with what crates/paper defines of the step.
-pub mod giving;
 mod loading;
 pub mod stepping;
 

@@ -1,6 +1,5 @@
 // One step of an F code: "A step is one F elm" (document 01, "Steps"). The element given to the code stands in its own slot.
 use crate::Position;
-use crate::giving;
 use crate::loading;
 use codes::Conversion;
 use codes::Elm;
@@ -17,7 +16,8 @@ ghost use Rattle.paper.specs.Checking.{Room};
 ghost use Rattle.codes.specs.Meaning.{operator-of, conversion-of, elm-of};
 ghost use Rattle.stack.specs.Slots.{entry-at, Slotted, Lent};
 ghost use Rattle.stack.specs.Charging.{Puts, taken-one, taken-two, taken-three};
-ghost use Rattle.steps.specs.Bounds.{Operand-within, Operator-within, Conversion-within, Elm-within};
+ghost use Rattle.giving.specs.Bounds.{Conversion-within};
+ghost use Rattle.steps.specs.Bounds.{Operand-within, Operator-within, Elm-within};
 ghost use Rattle.steps.specs.Stepping.{Elm-charges, binary-on, substring-on, converted-on};
 
 // "An attribute load costs 1 + record length + element length"; a literal or LPV takes none.

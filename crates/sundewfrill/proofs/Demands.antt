@@ -20,7 +20,7 @@ use Rattle.paper.proofs.Ceiling.{steps-within-ceiling, ceiling-reported}
 use Rattle.paper.proofs.Stack.{SafeCode, checked-codes-are-safe}
 use Rattle.paper.proofs.Numbered.{early-refusals, converting-numbered, converting-told, told-refused, no-stack-fault as converting-has-no-stack-fault}
 use Rattle.paper.proofs.Replacing as replacing
-use Rattle.convert.specs.Running.{codes-in, Accepts}
+use Rattle.elements.specs.Running.{codes-in, Accepts}
 use Rattle.convert.specs.Ceiling.{ceiling-of}
 use Rattle.convert.proofs.Accepting.{accepts}
 use Rattle.convert.proofs.Counting.{steps-capped, refused-alike}

@@ -18,7 +18,7 @@ use Rattle.judging.specs.Verdicts.{report-in}
 use Rattle.judging.specs.declared.Verdict.{Verdict}
 use Rattle.dates.specs.Dated.{typed-of}
 use Rattle.dates.specs.declared.TypedDay.{TypedDay}
-use Rattle.convert.specs.Gather.{converted-of}
+use Rattle.convert.specs.Finishing.{converted-of}
 use Rattle.convert.specs.Ceiling.{ceiling-told}
 use Rattle.convert.specs.declared.Bound.{Bound}
 use Rattle.convert.specs.declared.Converted.{Converted}

@@ -6,14 +6,10 @@ use crate::showing::say_numbers;
 use judging::Verdict;
 
 // "A number not given here, by any call, is 0."
-fn write_verdict(verdict: Verdict) {
-    match verdict {
+pub(crate) fn show(string: &[u8]) {
+    match judging::check(string) {
         Verdict::Accepted(counts) => say_numbers(0, 0, counts.loads, counts.others),
         Verdict::Refused { number, code } => say_numbers(number, code, 0, 0),
     }
-}
-
-pub(crate) fn show(code: &[u8]) {
-    write_verdict(judging::check(code));
-    say_line(code);
+    say_line(string);
 }

@@ -3,15 +3,16 @@
 use crate::showing::say;
 use crate::showing::say_byte;
 use crate::showing::say_element;
-use crate::showing::say_form;
 use crate::showing::say_given;
 use crate::showing::say_number;
 use crate::showing::say_refused;
 use crate::showing::say_titled;
+use crate::words;
+use crate::words::say_form;
+use crate::words::say_word;
 use cases::field;
 use cases::first_byte;
 use cases::lines::entry_room;
-use cases::lines::spelled_field;
 use cases::long;
 use codes::Elm;
 use codes::Operator;
@@ -20,6 +21,7 @@ use grammar::Head;
 use grammar::ReadElm;
 use grammar::ReadHead;
 use paper::Given;
+use paper::Limit;
 ghost use Prim.Native.Nat.{_≤_};
 ghost use lib.ListN.{length};
 ghost use Rattle.paper.specs.Sizes.{entry-most, number-digits};
@@ -36,29 +38,26 @@ fn give(code: &[u8], e: &[u8], out: &mut [u8]) -> Given
     let Head::Single(conversion) = head else {
         return Given::Refused(paper::refusal::NOT_IN_GRAMMAR);
     };
-    steps::giving::give(conversion, code, e, out)
+    giving::give(conversion, code, e, out)
 }
 
-fn show_conversion(line: &[u8], e: &[u8])
-    requires { ⌜ length (now e) ≤ entry-most ⌝ }
-{
+// An element that is over-long is refused before its first step.
+fn show_on(line: &[u8], e: &[u8]) {
+    if Limit::ENTRY.most < e.len() {
+        return say_no_code(field(line, 0, b'|'), paper::refusal::OVER_LONG_ENTRY);
+    }
     let mut out = entry_room();
-    say_form(b"0 on ", line);
+    say_form(words::ON, line);
     say_element(e);
     let given = give(field(line, 0, b'|'), e, &mut out);
     say_given(given, &out, long(e));
 }
 
-fn show_on(line: &[u8]) {
-    let mut e = entry_room();
-    let n = spelled_field(line, 2, true, &mut e);
-    show_conversion(line, &e[..n]);
-}
-
-fn say_day(day: TypedDay) {
-    match day {
+fn show_typed(line: &[u8]) {
+    say_form(words::TYPED, line);
+    match typed::typed_date(field(line, 0, b'|'), field(line, 2, b'|')) {
         TypedDay::Day { negative, size } => {
-            say(b" gives day ");
+            say_word(words::GIVES_DAY);
             if negative {
                 say_byte(b'-');
             }
@@ -69,25 +68,18 @@ fn say_day(day: TypedDay) {
     }
 }
 
-fn show_typed(line: &[u8]) {
-    let code = field(line, 0, b'|');
-    let date = field(line, 2, b'|');
-    say_form(b"0 typed \"2\"", line);
-    say_day(typed::typed_date(code, date));
-}
-
 // Two literals and the elm that takes them, as F has them, or only their lengths.
 fn say_two(line: &[u8], second: &[u8], top: &[u8]) {
     if long(second) {
-        say_form(b"F with 0 on ", line);
+        say_form(words::LONG_TWO, line);
         say_element(second);
-        say_titled(b" and ", top.len() as u64);
+        say_titled(words::AND, top.len() as u64);
     } else {
-        say_form(b"F;'2';'3';0", line);
+        say_form(words::TWO, line);
     }
 }
 
-fn show_binary(line: &[u8], second: &[u8], top: &[u8], op: Operator)
+fn show_two(line: &[u8], second: &[u8], top: &[u8], op: Operator)
     requires { ⌜ scale-of op ≤ number-digits ⌝ }
 {
     let mut out = entry_room();
@@ -96,54 +88,41 @@ fn show_binary(line: &[u8], second: &[u8], top: &[u8], op: Operator)
     say_given(given, &out, long(second));
 }
 
-fn show_two(line: &[u8], op: Operator)
-    requires { ⌜ scale-of op ≤ number-digits ⌝ }
-{
-    let mut second = entry_room();
-    let mut top = entry_room();
-    let n = spelled_field(line, 2, true, &mut second);
-    let k = spelled_field(line, 3, true, &mut top);
-    show_binary(line, &second[..n], &top[..k], op);
-}
-
-fn show_substring(line: &[u8]) {
+fn show_substring(line: &[u8], third: &[u8], second: &[u8]) {
     let mut out = entry_room();
-    let third = field(line, 2, b'|');
-    let second = field(line, 3, b'|');
-    let top = field(line, 4, b'|');
-    say_form(b"F;'2';'3';'4';0", line);
-    let given = numbers::entries::substring(third, second, top, &mut out);
+    say_form(words::THREE, line);
+    let given = numbers::entries::substring(third, second, field(line, 4, b'|'), &mut out);
     say_given(given, &out, false);
 }
 
-fn say_no_elm(text: &[u8], number: u64) {
+fn say_no_code(text: &[u8], number: u64) {
     say(text);
     say_refused(number);
 }
 
 // An elm that takes two entries, or `[]`.
-fn show_after(line: &[u8]) {
+fn show_after(line: &[u8], first: &[u8], next: &[u8]) {
     let text = field(line, 0, b'|');
     let read = grammar::elms::elm(text, 0);
-    let ReadElm::Elm { elm, next } = read else {
-        return say_no_elm(text, read.refusal());
+    let ReadElm::Elm { elm, next: end } = read else {
+        return say_no_code(text, read.refusal());
     };
-    if next != text.len() {
-        return say_no_elm(text, paper::refusal::NOT_IN_GRAMMAR);
+    if end != text.len() {
+        return say_no_code(text, paper::refusal::NOT_IN_GRAMMAR);
     }
     match elm {
-        Elm::Binary(op) => show_two(line, op),
-        Elm::Substring => show_substring(line),
-        _ => say_no_elm(text, paper::refusal::NOT_IN_GRAMMAR),
+        Elm::Binary(op) => show_two(line, first, next, op),
+        Elm::Substring => show_substring(line, first, next),
+        _ => say_no_code(text, paper::refusal::NOT_IN_GRAMMAR),
     }
 }
 
 // By the word after the first bar: `on`, `typed` or `after`.
-pub(crate) fn show(line: &[u8]) {
+pub(crate) fn show(line: &[u8], first: &[u8], next: &[u8]) {
     match first_byte(field(line, 1, b'|')) {
-        b'o' => show_on(line),
+        b'o' => show_on(line, first),
         b't' => show_typed(line),
-        b'a' => show_after(line),
+        b'a' => show_after(line, first, next),
         _ => {}
     }
 }

@@ -1,18 +1,17 @@
 // Converting; a line with no bar says what the cases after it try, in the paper's words, and is written.
 // A case is `CODE|ADDRESS|RECORD|BUDGET|OUTPUT|SCRATCH`, the last three where they matter: out it comes with its answer or refusal, its steps,
 // and what it leaves in the buffers, with the marks drawn as in the paper.
-use crate::showing::say;
 use crate::showing::say_buffer;
-use crate::showing::say_byte;
-use crate::showing::say_form;
 use crate::showing::say_line;
 use crate::showing::say_named;
 use crate::showing::say_titled;
+use crate::words;
+use crate::words::say_form;
+use crate::words::say_word;
 use cases::field;
 use cases::lines::length_or;
 use cases::lines::lent_room;
 use cases::lines::number_or;
-use cases::lines::record_room;
 use cases::lines::spelled_field;
 use cases::lines::typed_address;
 use cases::lines::zeros;
@@ -29,50 +28,44 @@ const SCRATCH: u64 = Limit::SCRATCH.most as u64;
 
 // With what the case names beyond code, address and record.
 fn say_case(line: &[u8]) {
-    say_form(b"`0` (1) `2`", line);
-    say_named(line, 3, b" budget ");
-    say_named(line, 4, b" output ");
-    say_named(line, 5, b" scratch ");
+    say_form(words::CONVERT, line);
+    say_named(line, 3, words::BUDGET);
+    say_named(line, 4, words::OUTPUT);
+    say_named(line, 5, words::SCRATCH);
 }
 
 // The answer or the refusal, and the steps.
 fn say_converted(given: Converted, out: &[u8]) {
-    say_byte(b':');
-    say_byte(b' ');
+    say_word(words::COLON);
     if given.number == 0 {
         say_buffer(lent::front(out, given.length));
     } else {
-        say_titled(b"refusal ", given.number);
+        say_titled(words::REFUSAL, given.number);
     }
-    say_titled(b", ", given.steps);
-    say(b" steps");
+    say_titled(words::COMMA, given.steps);
+    say_word(words::STEPS);
 }
 
 // "that buffer holds the answer and then zeros to its end"
 fn say_output(line: &[u8], length: usize, out: &[u8]) {
     if field(line, 4, b'|').len() != 0 {
-        say(b", output ");
+        say_word(words::LEFT_OUTPUT);
         say_buffer(out);
     }
     if !zeros(out, length) {
-        say(b", output not zeros behind the answer");
+        say_word(words::OUTPUT_NOT_ZEROS);
     }
 }
 
 // "Scratch is zeros throughout after every call."
-fn say_scratch(scratch: &[u8]) {
-    if zeros(scratch, 0) {
-        say(b", scratch zeros\n");
-    } else {
-        say(b", scratch not zeros\n");
-    }
-}
-
 fn say_left(line: &[u8], given: Converted, out: &[u8], scratch: &[u8]) {
-    say_case(line);
     say_converted(given, out);
     say_output(line, given.length, out);
-    say_scratch(scratch);
+    if zeros(scratch, 0) {
+        say_word(words::SCRATCH_ZEROS);
+    } else {
+        say_word(words::SCRATCH_NOT_ZEROS);
+    }
 }
 
 fn converted<'a>(line: &[u8], item: &'a [u8], code: &'a [u8], out: &mut [u8], scratch: &mut [u8]) {
@@ -90,17 +83,16 @@ fn lend<'a>(line: &[u8], item: &'a [u8], code: &'a [u8]) {
     converted(line, item, code, &mut out[0..room], &mut scratch[0..lent]);
 }
 
-fn show_case(line: &[u8]) {
-    let mut item = record_room();
+fn show_case(line: &[u8], item: &[u8]) {
     let mut code = [0u8; Limit::CODE.most + 1];
-    let n = spelled_field(line, 2, true, &mut item);
-    let k = spelled_field(line, 0, false, &mut code);
-    lend(line, &item[..n], &code[..k]);
+    let n = spelled_field(line, 0, false, &mut code);
+    lend(line, item, &code[..n]);
 }
 
-pub(crate) fn show(line: &[u8]) {
+pub(crate) fn show(line: &[u8], item: &[u8]) {
     if place(line, 0, b'|') < line.len() {
-        show_case(line);
+        say_case(line);
+        show_case(line, item);
     } else {
         say_line(line);
     }

@@ -5,7 +5,7 @@ use native.Mathlib.Omega.{arith}
 use lib.ListN.{length, drop}
 use denote.Ref.{now}
 use Rattle.paper.specs.Sizes.{is-inner-mark}
-use Rattle.convert.specs.Walk.{inner-marks}
+use Rattle.convert.specs.Marks.{inner-marks}
 use Rattle.convert.proofs.Counting.{marks-hit, marks-miss, marks-all}
 use Rattle.convert.proofs.inner_marks.Statement.{statement}
 use Rattle.convert.proofs.inner_marks.Tie as tie

@@ -1,6 +1,6 @@
 -- `convert::unanswered` meets its contract, case by case. Assumes nothing.
 use borrow.Author.Needs.{needs}
-use Rattle.convert.specs.Gather.{unanswered-as}
+use Rattle.convert.specs.Finishing.{unanswered-as}
 use Rattle.convert.proofs.unanswered.Statement.{statement}
 use Rattle.convert.proofs.unanswered.Tie as tie
 

@@ -7,7 +7,8 @@ use borrow.Author.Needs.{needs}
 use Rattle.paper.specs.Bytes.{any}
 use Rattle.paper.specs.Sizes.{is-mark}
 use Rattle.grammar.specs.Heads.{head}
-use Rattle.grammar.proofs.Answering.{heads, read-is, refused-read}
+use Rattle.readers.proofs.Answering.{read-is, refused-read}
+use Rattle.grammar.proofs.Answering.{heads}
 use Rattle.typed.proofs.Typed.{typed-long, typed-marked, typed-function, typed-bad, typed-single}
 use Rattle.typed.proofs.typed_date.Statement.{statement}
 use Rattle.typed.proofs.typed_date.Tie as tie

@@ -2,7 +2,7 @@
 use borrow.Author.Needs.{needs}
 use borrow.Author.Tests.{eq-eqb, ne-eqb}
 use Rattle.grammar.specs.Addresses.{address, address-read}
-use Rattle.grammar.proofs.Answering.{nums, read-is}
+use Rattle.readers.proofs.Answering.{nums, read-is}
 use Rattle.grammar.proofs.AddressForm.{address-is}
 use Rattle.grammar.proofs.addresses.address.Statement.{statement}
 use Rattle.grammar.proofs.addresses.address.Tie as tie

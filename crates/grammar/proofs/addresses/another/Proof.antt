@@ -1,8 +1,8 @@
 -- `addresses::another` meets its contract: a comma, and a number behind it. Assumes nothing.
 use borrow.Author.Needs.{needs}
 use Rattle.grammar.specs.Addresses.{another}
-use Rattle.grammar.proofs.Answering.{nums, read-none, read-by}
-use Rattle.grammar.proofs.Taken.{this-yes, this-no}
+use Rattle.readers.proofs.Answering.{nums, read-none, read-by}
+use Rattle.readers.proofs.Taken.{this-yes, this-no}
 use Rattle.grammar.proofs.addresses.another.Statement.{statement}
 use Rattle.grammar.proofs.addresses.another.Tie as tie
 

@@ -1,7 +1,8 @@
 -- `elms::attribute_elm` meets its contract. Assumes nothing.
 use borrow.Author.Needs.{needs}
 use Rattle.grammar.specs.Reading.{attribute-elm}
-use Rattle.grammar.proofs.Answering.{elms, read-some}
+use Rattle.readers.proofs.Answering.{read-some}
+use Rattle.grammar.proofs.Answering.{elms}
 use Rattle.grammar.proofs.elms.attribute_elm.Statement.{statement}
 use Rattle.grammar.proofs.elms.attribute_elm.Tie as tie
 

@@ -2,8 +2,9 @@
 use mathlib.Core.Path.{refl, _∙_}
 use borrow.Author.Needs.{needs}
 use Rattle.grammar.specs.Reading.{bracket-elm}
-use Rattle.grammar.proofs.Answering.{elms, read-some}
-use Rattle.grammar.proofs.Taken.{chosen, missed}
+use Rattle.readers.proofs.Answering.{read-some}
+use Rattle.readers.proofs.Taken.{chosen, missed}
+use Rattle.grammar.proofs.Answering.{elms}
 use Rattle.grammar.proofs.elms.bracket_elm.Statement.{statement}
 use Rattle.grammar.proofs.elms.bracket_elm.Tie as tie
 

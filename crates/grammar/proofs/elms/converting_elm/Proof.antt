@@ -1,8 +1,9 @@
 -- `elms::converting_elm` meets its contract: a code other than F, and a parenthesis. Assumes nothing.
 use borrow.Author.Needs.{needs}
 use Rattle.grammar.specs.Reading.{converting-elm}
-use Rattle.grammar.proofs.Answering.{conversions, elms, read-is, read-none, read-some, passed}
-use Rattle.grammar.proofs.Taken.{this-yes, this-no}
+use Rattle.readers.proofs.Answering.{conversions, read-is, read-none, read-some, passed}
+use Rattle.readers.proofs.Taken.{this-yes, this-no}
+use Rattle.grammar.proofs.Answering.{elms}
 use Rattle.grammar.proofs.elms.converting_elm.Statement.{statement}
 use Rattle.grammar.proofs.elms.converting_elm.Tie as tie
 

@@ -1,7 +1,8 @@
 -- `elms::elm` meets its contract: an attribute, or another elm. Assumes nothing.
 use borrow.Author.Needs.{needs}
 use Rattle.grammar.specs.Reading.{elm}
-use Rattle.grammar.proofs.Answering.{nums, elms, read-is, read-by}
+use Rattle.readers.proofs.Answering.{nums, read-is, read-by}
+use Rattle.grammar.proofs.Answering.{elms}
 use Rattle.grammar.proofs.elms.elm.Statement.{statement}
 use Rattle.grammar.proofs.elms.elm.Tie as tie
 

@@ -6,7 +6,8 @@ use lib.ListN.{length, drop}
 use denote.Ref.{now}
 use Rattle.grammar.specs.Reading.{closing}
 use Rattle.grammar.proofs.Lines.{closing-here, closing-on, closing-none, literal-closed, literal-open}
-use Rattle.grammar.proofs.Answering.{elms, read-none, read-some}
+use Rattle.readers.proofs.Answering.{read-none, read-some}
+use Rattle.grammar.proofs.Answering.{elms}
 use Rattle.grammar.proofs.elms.literal_elm.Statement.{statement}
 use Rattle.grammar.proofs.elms.literal_elm.Tie as tie
 

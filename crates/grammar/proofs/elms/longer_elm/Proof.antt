@@ -2,8 +2,9 @@
 use mathlib.Core.Path.{refl}
 use borrow.Author.Needs.{needs}
 use Rattle.grammar.specs.Reading.{longer-elm}
-use Rattle.grammar.proofs.Answering.{elms, read-by}
-use Rattle.grammar.proofs.Taken.{chosen, missed}
+use Rattle.readers.proofs.Answering.{read-by}
+use Rattle.readers.proofs.Taken.{chosen, missed}
+use Rattle.grammar.proofs.Answering.{elms}
 use Rattle.grammar.proofs.elms.longer_elm.Statement.{statement}
 use Rattle.grammar.proofs.elms.longer_elm.Tie as tie
 

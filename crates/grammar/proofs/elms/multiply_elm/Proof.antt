@@ -2,7 +2,8 @@
 use mathlib.Core.Path.{_∙_}
 use borrow.Author.Needs.{needs}
 use Rattle.grammar.specs.Reading.{multiply-elm}
-use Rattle.grammar.proofs.Answering.{nums, elms, read-is, read-some}
+use Rattle.readers.proofs.Answering.{nums, read-is, read-some}
+use Rattle.grammar.proofs.Answering.{elms}
 use Rattle.grammar.proofs.elms.multiply_elm.Statement.{statement}
 use Rattle.grammar.proofs.elms.multiply_elm.Tie as tie
 

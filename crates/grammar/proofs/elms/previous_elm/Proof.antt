@@ -1,8 +1,9 @@
 -- `elms::previous_elm` meets its contract: by the arms that the bytes took. Assumes nothing.
 use borrow.Author.Needs.{needs}
 use Rattle.grammar.specs.Reading.{previous-elm}
-use Rattle.grammar.proofs.Answering.{elms, read-none, read-some}
-use Rattle.grammar.proofs.Taken.{this-yes, this-no}
+use Rattle.readers.proofs.Answering.{read-none, read-some}
+use Rattle.readers.proofs.Taken.{this-yes, this-no}
+use Rattle.grammar.proofs.Answering.{elms}
 use Rattle.grammar.proofs.elms.previous_elm.Statement.{statement}
 use Rattle.grammar.proofs.elms.previous_elm.Tie as tie
 

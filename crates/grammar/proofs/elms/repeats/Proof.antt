@@ -2,7 +2,7 @@
 use mathlib.Core.Path.{refl, sym}
 use borrow.Author.Needs.{needs}
 use Rattle.grammar.specs.Reading.{repeats}
-use Rattle.grammar.proofs.Taken.{chosen, missed}
+use Rattle.readers.proofs.Taken.{chosen, missed}
 use Rattle.grammar.proofs.elms.repeats.Statement.{statement}
 use Rattle.grammar.proofs.elms.repeats.Tie as tie
 

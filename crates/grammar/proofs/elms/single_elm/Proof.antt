@@ -2,8 +2,9 @@
 use mathlib.Core.Path.{refl, _∙_}
 use borrow.Author.Needs.{needs}
 use Rattle.grammar.specs.Reading.{single-elm}
-use Rattle.grammar.proofs.Answering.{elms, read-none, read-some}
-use Rattle.grammar.proofs.Taken.{chosen, missed}
+use Rattle.readers.proofs.Answering.{read-none, read-some}
+use Rattle.readers.proofs.Taken.{chosen, missed}
+use Rattle.grammar.proofs.Answering.{elms}
 use Rattle.grammar.proofs.elms.single_elm.Statement.{statement}
 use Rattle.grammar.proofs.elms.single_elm.Tie as tie
 

@@ -3,7 +3,8 @@ use mathlib.Core.Path.{sym}
 use borrow.Author.Needs.{needs}
 use borrow.Author.Tests.{eq-eqb, ne-eqb}
 use Rattle.grammar.specs.Heads.{head}
-use Rattle.grammar.proofs.Answering.{conversions, heads, read-is, read-none, read-some, passed}
+use Rattle.readers.proofs.Answering.{conversions, read-is, read-none, read-some, passed}
+use Rattle.grammar.proofs.Answering.{heads}
 use Rattle.grammar.proofs.heads.head.Statement.{statement}
 use Rattle.grammar.proofs.heads.head.Tie as tie
 

@@ -5,7 +5,8 @@ use native.Mathlib.Omega.{arith}
 use denote.Ref.{now}
 use borrow.Author.Needs.{needs}
 use Rattle.grammar.specs.Heads.{head}
-use Rattle.grammar.proofs.Answering.{heads, read-is, refused-read}
+use Rattle.readers.proofs.Answering.{read-is, refused-read}
+use Rattle.grammar.proofs.Answering.{heads}
 use Rattle.grammar.proofs.HeadReads.{head-first}
 use Rattle.judging.proofs.Judging.{judged-function, judged-single, judged-bad}
 use Rattle.judging.proofs.strings.judge.Statement.{statement}

@@ -8,7 +8,8 @@ use denote.Ref.{now}
 use borrow.Author.Needs.{needs}
 use Rattle.grammar.specs.Heads.{elms-from}
 use Rattle.grammar.specs.Reading.{elm}
-use Rattle.grammar.proofs.Answering.{elms, read-is, refused-read}
+use Rattle.readers.proofs.Answering.{read-is, refused-read}
+use Rattle.grammar.proofs.Answering.{elms}
 use Rattle.grammar.proofs.Parted.{elm-within}
 use Rattle.judging.specs.Tallies.{steps, none-yet}
 use Rattle.judging.specs.Verdicts.{finished}

@@ -2,7 +2,8 @@
 use mathlib.Core.Path.{ap, _∙_}
 use mathlib.Core.Option.{some}
 use borrow.Author.Needs.{needs}
-use Rattle.grammar.proofs.Answering.{heads, read-is}
+use Rattle.readers.proofs.Answering.{read-is}
+use Rattle.grammar.proofs.Answering.{heads}
 use Rattle.machine.proofs.Plans.{plan-function, plan-alone, plan-parted, plan-bad}
 use Rattle.machine.proofs.running.plan.Statement.{statement}
 use Rattle.machine.proofs.running.plan.Tie as tie

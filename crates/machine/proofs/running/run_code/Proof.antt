@@ -6,7 +6,8 @@ use native.Mathlib.Omega.{arith}
 use denote.Ref.{now}
 use Rattle.paper.specs.Bytes.{Bytes}
 use Rattle.paper.specs.Steps.{Run}
-use Rattle.grammar.proofs.Answering.{heads, read-is}
+use Rattle.readers.proofs.Answering.{read-is}
+use Rattle.grammar.proofs.Answering.{heads}
 use Rattle.grammar.proofs.HeadReads.{head-first}
 use Rattle.machine.specs.Runs.{metered}
 use Rattle.machine.proofs.Turns.{runs-as}

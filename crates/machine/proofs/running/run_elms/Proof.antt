@@ -4,7 +4,8 @@ use mathlib.Core.Path.{_≡_, refl, _∙_}
 use Prim.Native.Nat.{_-_}
 use native.Mathlib.Omega.{arith}
 use lib.ListN.{length}
-use Rattle.grammar.proofs.Answering.{elms, read-is}
+use Rattle.readers.proofs.Answering.{read-is}
+use Rattle.grammar.proofs.Answering.{elms}
 use Rattle.machine.proofs.Turns.{
   Turn,
   stretch-refused,

@@ -3,7 +3,8 @@ use borrow.Author.Needs.{needs}
 use mathlib.Core.Path.{ap, _∙_}
 use mathlib.Core.Option.{some}
 use denote.Ref.{now}
-use Rattle.grammar.proofs.Answering.{heads, read-is}
+use Rattle.readers.proofs.Answering.{read-is}
+use Rattle.grammar.proofs.Answering.{heads}
 use Rattle.machine.proofs.CodeRuns.{single-within}
 use Rattle.worked.proofs.gives.give.Statement.{statement}
 use Rattle.worked.proofs.gives.give.Tie as tie

@@ -1,6 +1,7 @@
 -- `gives::show_after` is safe: an elm that the grammar reads has its numbers within what the grammar keeps them.
 use borrow.Author.Needs.{needs}
-use Rattle.grammar.proofs.Answering.{elms, read-is}
+use Rattle.readers.proofs.Answering.{read-is}
+use Rattle.grammar.proofs.Answering.{elms}
 use Rattle.machine.proofs.Within.{elm-reads, read-has}
 use Rattle.steps.proofs.Operands.{binary-operator, operator-scale}
 use Rattle.worked.proofs.gives.show_after.Statement.{statement}

@@ -1,0 +1,3 @@
+pub mod Gather
+pub mod Running
+pub mod Walk

@@ -1,0 +1,3 @@
+pub mod Places
+pub mod Reading
+pub mod Answers
