@@ -1,4 +1,4 @@
--- The marks that part elements, counted: how many elements there are. Furniture for the proofs: proofs/Counting.antt ties it to `elements`.
+-- The marks that part elements, counted: how many elements there are. Furniture for the proofs: proofs/Counting.antt ties it to the paper's `elements`.
 use Prim.Native.Nat.{ℕ, _+_}
 use mathlib.Core.List.{[], _∷_}
 use Rattle.paper.specs.Bytes.{Bytes, if_then_else_}

@@ -1,12 +1,11 @@
 -- Any two outcomes that the contract of `walk` allows are equal: its answer and, where that fits, its bytes in front of the output. Assumes nothing.
 use Prim.Native.Nat.{ℕ, _≤_}
-use mathlib.Core.Path.{_≡_, refl, sym, ap, _∙_}
+use mathlib.Core.Path.{_≡_, sym, _∙_}
 use native.Mathlib.Omega.{arith}
 use lib.ListN.{length, take}
 use contract.Lifetimes.{Lfts}
 use Rattle.paper.specs.Bytes.{Bytes}
 use Rattle.paper.specs.Refusals.{Res, given, refused}
-use Rattle.paper.specs.Converting.{Outcome}
 use Rattle.elements.specs.Gather.{Holds-answer, walked-of}
 use Rattle.elements.specs.Running.{Walks}
 use Rattle.elements.specs.declared.Walked.{Walked}

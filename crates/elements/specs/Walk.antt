@@ -1,4 +1,5 @@
--- The elements of an address as one walk from left to right sees them. Furniture for the proofs: proofs/Walking.antt ties it to `elements`.
+-- The elements of an address as one walk from left to right sees them: what `walk` promises is said of it, and proofs/Walking.antt ties it to the
+-- paper's `elements`.
 use Prim.Native.Nat.{ℕ, suc}
 use mathlib.Core.List.{List, [], _∷_}
 use lib.Dec.{eqb}

@@ -131,7 +131,7 @@ fn far_pass(item: &[u8], from: usize, mark: Mark, n: u64) -> Stop
 }
 
 // Past n marks. A short record is walked byte by byte: tests of blocks would cost more than they save.
-// Here and below `&*` lends the record anew to the scan by blocks, so that the one at hand stays in registers.
+// Here and below `&*` lends the record anew to the scan by blocks: handed on itself it would have to stand in memory.
 fn pass(item: &[u8], from: usize, mark: Mark, n: u64) -> Stop
     requires { ⌜ (from ≤ length (now item)) × (mark .byte ≤ attribute-mark) ⌝ }
     ensures { λ r. ⌜ r ≡ skip (mark .byte) (drop from (now (item .entry))) from n ⌝ }

@@ -43,12 +43,12 @@ fn give(code: &[u8], e: &[u8], out: &mut [u8]) -> Given
 
 // An element that is over-long is refused before its first step.
 fn show_on(line: &[u8], e: &[u8]) {
-    if Limit::ENTRY.most < e.len() {
-        return say_no_code(field(line, 0, b'|'), paper::refusal::OVER_LONG_ENTRY);
-    }
     let mut out = entry_room();
     say_form(words::ON, line);
     say_element(e);
+    if Limit::ENTRY.most < e.len() {
+        return say_refused(paper::refusal::OVER_LONG_ENTRY);
+    }
     let given = give(field(line, 0, b'|'), e, &mut out);
     say_given(given, &out, long(e));
 }
@@ -88,6 +88,7 @@ fn show_two(line: &[u8], second: &[u8], top: &[u8], op: Operator)
     say_given(given, &out, long(second));
 }
 
+// The top entry is a number, which has nothing to spell.
 fn show_substring(line: &[u8], third: &[u8], second: &[u8]) {
     let mut out = entry_room();
     say_form(words::THREE, line);

@@ -57,7 +57,7 @@ fn say_output(line: &[u8], length: usize, out: &[u8]) {
     }
 }
 
-// "Scratch is zeros throughout after every call."
+// What is answered and what is left: "Scratch is zeros throughout after every call."
 fn say_left(line: &[u8], given: Converted, out: &[u8], scratch: &[u8]) {
     say_converted(given, out);
     say_output(line, given.length, out);
