@@ -137,8 +137,7 @@ pub fn walk<'a>(
 ) -> Walked
     requires { ⌜ Lent (now item) (now scratch) (now lens) (now work) × Accepts (now code) × (length (now text) ≤ record-most) ⌝ }
     requires { ⌜ (from .v ≤ position-most) × (from .s ≤ position-most) ⌝ }
-    ensures { λ r. ⌜ Walks (elements-outcome (now (item .entry)) (now (code .entry)) from budget (now (text .entry)))
-        r (now (out .entry)) (now (out .exit)) ⌝ }
+    ensures { λ r. ⌜ Walks (elements-outcome (now (item .entry)) (now (code .entry)) from budget (now (text .entry))) r (now (out .entry)) (now (out .exit)) ⌝ }
 {
     let plan = machine::running::plan(code);
     let mut at = 0;
