@@ -11,7 +11,6 @@ use Rattle.cases.proofs.spelled.Reads as spelled
 use Rattle.cases.proofs.lines.typed_address.Reads as typed-address
 use Rattle.cases.proofs.lines.number_or.Reads as number-or
 use Rattle.cases.proofs.lines.length_or.Reads as length-or
-use Rattle.cases.proofs.lines.entry_room.Reads as entry-room
 use Rattle.cases.proofs.lines.record_room.Reads as record-room
 use Rattle.cases.proofs.lines.lent_room.Reads as lent-room
 use Rattle.cases.proofs.lines.spelled_field.Reads as spelled-field
@@ -46,9 +45,6 @@ number-or-settled κs a r r′ e e′ p q = p ∙ sym q
 
 length-or-settled : (κs : Lfts 1) → (a : _) (r r′ : _) (e e′ : _) → length-or.Post κs a r e → length-or.Post κs a r′ e′ → r ≡ r′
 length-or-settled κs a r r′ e e′ p q = p .1 ∙ sym (q .1)
-
-entry-room-settled : (κs : Lfts 0) → (a : _) (r r′ : _) (e e′ : _) → entry-room.Post κs a r e → entry-room.Post κs a r′ e′ → r ≡ r′
-entry-room-settled κs a r r′ e e′ p q = p .1 ∙ sym (q .1)
 
 record-room-settled : (κs : Lfts 0) → (a : _) (r r′ : _) (e e′ : _) → record-room.Post κs a r e → record-room.Post κs a r′ e′ → r ≡ r′
 record-room-settled κs a r r′ e e′ p q = p .1 ∙ sym (q .1)

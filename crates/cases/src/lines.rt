@@ -6,7 +6,7 @@ ghost use mathlib.Core.Path.{_≡_};
 ghost use Prim.Native.Nat.{_+_, _≤_, min};
 ghost use lib.ListN.{length, drop, replicate};
 ghost use Rattle.io.specs.Counts.{Counts};
-ghost use Rattle.paper.specs.Sizes.{record-most, entry-most};
+ghost use Rattle.paper.specs.Sizes.{record-most};
 ghost use Rattle.cases.specs.Tables.{in-field, typed-part, number-or, laid, behind, spelled, all-zeros};
 
 // The longest buffer.
@@ -51,13 +51,6 @@ pub fn length_or(line: &[u8], k: u64, usual: u64) -> usize
         return n as usize;
     }
     ROOM as usize
-}
-
-// Room for an element.
-pub fn entry_room() -> [u8; Limit::ENTRY.most]
-    ensures { λ r. ⌜ (entry-most ≡ length r) × (r ≡ replicate entry-most 0) ⌝ }
-{
-    [0; Limit::ENTRY.most]
 }
 
 // Room for a record that is a byte too long.

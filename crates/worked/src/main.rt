@@ -1,18 +1,21 @@
 // Runs the proved functions on four tables of cases, document 01's worked examples among them: a case a line of standard input, its fields parted by bars.
-// A heading, `@ ` and a table's name, begins each table and is written as it stands; the head of src/NAME.rt says what that table's cases are.
+// A heading, `@ ` and a table's name, begins each table; the head of src/NAME.rt says what that table's cases are. A line with no bar says what the cases
+// after it try, but in `checks`, where each line is a case. Every line is written as it stands, and behind a case what came of it.
 // That the answers are right is proved of the crates below; this shows them, and what it writes is compared with a stored text.
 mod checks;
-mod gives;
+mod days;
 mod places;
 mod runs;
 mod showing;
 mod words;
 
-use crate::showing::say_line;
+use crate::showing::say;
+use crate::showing::say_byte;
 use cases::field;
 use cases::first_byte;
 use cases::lines::record_room;
 use cases::lines::spelled_field;
+use cases::place;
 use libc::STDIN_FILENO;
 use paper::Limit;
 
@@ -20,8 +23,7 @@ use paper::Limit;
 fn show_spelled(line: &[u8], table: u8, item: &[u8], element: &[u8]) {
     match table {
         b'p' => places::show(line, item, element),
-        b'c' => checks::show(line),
-        b'g' => gives::show(line, item, element),
+        b'd' => days::show(line),
         b'r' => runs::show(line, item),
         _ => {}
     }
@@ -36,13 +38,25 @@ fn show_case(line: &[u8], table: u8) {
     show_spelled(line, table, &item[..n], &element[..k]);
 }
 
-// Shows a case of a table; the table that the next line belongs to.
+fn show_answer(line: &[u8], table: u8) {
+    if table == b'c' {
+        checks::show(line);
+    } else if place(line, 0, b'|') < line.len() {
+        show_case(line, table);
+    }
+}
+
+// Shows a line and what came of it; the table that the next line belongs to.
 fn show_line(line: &[u8], table: u8) -> u8 {
-    if first_byte(line) == b'@' {
-        say_line(line);
+    let heading = first_byte(line) == b'@';
+    say(line);
+    if !heading {
+        show_answer(line, table);
+    }
+    say_byte(b'\n');
+    if heading {
         return first_byte(field(line, 1, b' '));
     }
-    show_case(line, table);
     table
 }
 
