@@ -6,8 +6,6 @@ use Rattle.cases.proofs.long.Reads as long
 use Rattle.cases.proofs.first_byte.Reads as first-byte
 use Rattle.cases.proofs.place.Reads as place
 use Rattle.cases.proofs.field.Reads as field
-use Rattle.cases.proofs.number.Reads as number
-use Rattle.cases.proofs.spelled.Reads as spelled
 use Rattle.cases.proofs.lines.typed_address.Reads as typed-address
 use Rattle.cases.proofs.lines.number_or.Reads as number-or
 use Rattle.cases.proofs.lines.length_or.Reads as length-or
@@ -30,12 +28,6 @@ place-settled κs a r r′ e e′ p q = p .1 ∙ sym (q .1)
 
 field-settled : (κs : Lfts 1) → (a : _) (r r′ : _) (e e′ : _) → field.Post κs a r e → field.Post κs a r′ e′ → r .now ≡ r′ .now
 field-settled κs a r r′ e e′ p q = p ∙ sym q
-
-number-settled : (κs : Lfts 1) → (a : _) (r r′ : _) (e e′ : _) → number.Post κs a r e → number.Post κs a r′ e′ → r ≡ r′
-number-settled κs a r r′ e e′ p q = p ∙ sym q
-
-spelled-settled : (κs : Lfts 2) → (a : _) (r r′ : _) (e e′ : _) → spelled.Post κs a r e → spelled.Post κs a r′ e′ → (r ≡ r′) × (e .1 .1 .0 .now ≡ e′ .1 .1 .0 .now)
-spelled-settled κs a r r′ e e′ p q = (p .1 .0 ∙ sym (q .1 .0), p .1 .1 ∙ sym (q .1 .1))
 
 typed-address-settled : (κs : Lfts 1) → (a : _) (r r′ : _) (e e′ : _) → typed-address.Post κs a r e → typed-address.Post κs a r′ e′ → (r .a ≡ r′ .a) × (r .v ≡ r′ .v) × (r .s ≡ r′ .s)
 typed-address-settled κs a r r′ e e′ p q = (p .0 ∙ sym (q .0), p .1 ∙ sym (q .1), p .2 ∙ sym (q .2))

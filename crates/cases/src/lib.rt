@@ -1,4 +1,4 @@
-// What the programs over tables of cases share: the fields of a case and the bytes that they spell, and a text with its marks drawn.
+// What the program over tables of cases reads and draws by: the fields of a case and the bytes that they spell, and a text with its marks drawn.
 // A table has a case to a line, its fields parted by a byte; long elements and marks may be spelled in braces, so that a table is plain text.
 // Every contract is an equality with a definition of specs/Tables.antt.
 pub mod lines;
@@ -16,7 +16,7 @@ ghost use Rattle.io.specs.Counts.{Counts};
 ghost use Rattle.lent.specs.Scan.{upto, piece};
 ghost use Rattle.cases.specs.Tables.{shown, shown-byte, meant, laid, behind, digit, number, braced, unbraced, spelled};
 
-// So many bytes of a text are shown: what a case turns on stands in fewer.
+// A text of at most so many bytes is shown: what a case turns on is shorter.
 pub const SHOWN: usize = 64;
 
 // The largest number of 64 bits.
@@ -57,7 +57,7 @@ pub fn draw(text: &[u8], line: &mut [u8]) -> usize
     n
 }
 
-// Whether a text is too long to be shown whole: the programs then write its length.
+// Whether a text is too long to be shown: its length is written then.
 pub fn long(text: &[u8]) -> bool
     ensures { λ r. ⌜ r ≡ ltb shown (length (now (text .entry))) ⌝ }
 {
@@ -111,7 +111,7 @@ fn digit(b: u8) -> u64
 }
 
 // The number that a text's digits make, or the largest there is.
-pub fn number(text: &[u8]) -> u64
+pub(crate) fn number(text: &[u8]) -> u64
     ensures { λ r. ⌜ r ≡ number (now (text .entry)) ⌝ }
 {
     let mut n = 0;
@@ -207,7 +207,7 @@ fn meant(b: u8, marks: bool) -> u8
 }
 
 // The bytes that a field stands for, as many as there is room for; in a record the drawn marks are put in, in a code string `]` is an elm.
-pub fn spelled(text: &[u8], marks: bool, out: &mut [u8]) -> usize
+pub(crate) fn spelled(text: &[u8], marks: bool, out: &mut [u8]) -> usize
     ensures { λ r. ⌜ Counts r (now (out .exit)) ⌝ }
     ensures { λ r. ⌜ r ≡ behind (now (out .entry)) 0 (spelled marks (now (text .entry))) ⌝ }
     ensures { λ _. ⌜ now (out .exit) ≡ laid (now (out .entry)) 0 (spelled marks (now (text .entry))) ⌝ }

@@ -17,27 +17,27 @@ use cases::lines::record_room;
 use cases::lines::spelled_field;
 use cases::place;
 use libc::STDIN_FILENO;
-use paper::Limit;
 
-// The table is told by its name's first byte.
-fn show_spelled(line: &[u8], table: u8, item: &[u8], element: &[u8]) {
-    match table {
-        b'p' => places::show(line, item, element),
-        b'd' => days::show(line),
-        b'r' => runs::show(line, item),
-        _ => {}
+// The cases that have a record in field 2: room for one that is a byte too long.
+fn show_spelled(line: &[u8], table: u8) {
+    let mut item = record_room();
+    let n = spelled_field(line, 2, true, &mut item);
+    if table == b'p' {
+        places::show(line, &item[..n]);
+    } else {
+        runs::show(line, &item[..n]);
     }
 }
 
-// Fields 2 and 3 are spelled here for every table: room for a record and for an element, each a byte too long.
 fn show_case(line: &[u8], table: u8) {
-    let mut item = record_room();
-    let mut element = [0u8; Limit::ENTRY.most + 1];
-    let n = spelled_field(line, 2, true, &mut item);
-    let k = spelled_field(line, 3, true, &mut element);
-    show_spelled(line, table, &item[..n], &element[..k]);
+    if table == b'd' {
+        days::show(line);
+    } else {
+        show_spelled(line, table);
+    }
 }
 
+// The table is told by its name's first byte.
 fn show_answer(line: &[u8], table: u8) {
     if table == b'c' {
         checks::show(line);
@@ -48,23 +48,22 @@ fn show_answer(line: &[u8], table: u8) {
 
 // Shows a line and what came of it; the table that the next line belongs to.
 fn show_line(line: &[u8], table: u8) -> u8 {
-    let heading = first_byte(line) == b'@';
     say(line);
-    if !heading {
+    let mut next = table;
+    if first_byte(line) == b'@' {
+        next = first_byte(field(line, 1, b' '));
+    } else {
         show_answer(line, table);
     }
     say_byte(b'\n');
-    if heading {
-        return first_byte(field(line, 1, b' '));
-    }
-    table
+    next
 }
 
 fn show_lines(text: &[u8]) {
     let mut table = 0;
     let mut at = 0;
     while at < text.len() {
-        let end = cases::place(text, at, b'\n');
+        let end = place(text, at, b'\n');
         table = show_line(&text[at..end], table);
         if end == text.len() {
             return;

@@ -7,8 +7,10 @@ use crate::words::say_word;
 use cases::first_byte;
 use cases::lines::length_or;
 use cases::lines::lent_room;
+use cases::lines::spelled_field;
 use cases::lines::typed_address;
 use paper::Given;
+use paper::Limit;
 use records::Found;
 
 fn say_found(found: Found) {
@@ -32,25 +34,32 @@ fn say_given(given: Given) {
 fn find(line: &[u8], item: &[u8]) {
     let at = typed_address(line);
     say_found(records::find(item, at.a, at.v, at.s));
-    say_text(words::BLANK, records::extract(item, at.a, at.v, at.s));
+    say_text(words::COMMA, records::extract(item, at.a, at.v, at.s));
 }
 
 fn replace(line: &[u8], item: &[u8], new: &[u8], out: &mut [u8]) {
     let at = typed_address(line);
     say_given(records::replace(item, at.a, at.v, at.s, new, out));
-    say_text(words::BLANK, out);
+    say_text(words::OUTPUT, out);
 }
 
-fn show_replace(line: &[u8], item: &[u8], new: &[u8]) {
+fn lend(line: &[u8], item: &[u8], new: &[u8]) {
     let mut out = lent_room();
     let size = length_or(line, 4, 0);
     replace(line, item, new, &mut out[0..size]);
 }
 
-pub(crate) fn show(line: &[u8], item: &[u8], new: &[u8]) {
-    match first_byte(line) {
-        b'f' => find(line, item),
-        b'r' => show_replace(line, item, new),
-        _ => {}
+// The new element may be a byte too long.
+fn show_replace(line: &[u8], item: &[u8]) {
+    let mut new = [0u8; Limit::ENTRY.most + 1];
+    let n = spelled_field(line, 3, true, &mut new);
+    lend(line, item, &new[..n]);
+}
+
+pub(crate) fn show(line: &[u8], item: &[u8]) {
+    if first_byte(line) == b'f' {
+        find(line, item);
+    } else {
+        show_replace(line, item);
     }
 }

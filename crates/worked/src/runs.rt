@@ -54,16 +54,8 @@ fn say_scratch(scratch: &[u8]) {
 // What is answered and what is left.
 fn converted<'a>(line: &[u8], item: &'a [u8], code: &'a [u8], out: &mut [u8], scratch: &mut [u8]) {
     let at = typed_address(line);
-    let given = convert::convert(
-        item,
-        code,
-        at.a,
-        at.v,
-        at.s,
-        number_or(line, 3, BUDGET),
-        out,
-        scratch,
-    );
+    let budget = number_or(line, 3, BUDGET);
+    let given = convert::convert(item, code, at.a, at.v, at.s, budget, out, scratch);
     say_converted(given, out);
     say_output(line, given.length, out);
     say_scratch(scratch);
