@@ -1,10 +1,12 @@
 -- What each case of these enums is in the paper's definitions.
 use Prim.Native.Nat.{ℕ}
+use mathlib.Core.List.{List, []}
 use mathlib.Core.Option.{Option, none, some}
 use lib.ListN.{take, drop}
 use Rattle.paper.specs.Bytes.{Bytes}
 use Rattle.paper.specs.Numbers as numbers
 use Rattle.paper.specs.Codes as paper
+use Rattle.paper.specs.Grammar.{pattern-list}
 use Rattle.codes.specs.declared.Relation.{Relation}
 use Rattle.codes.specs.declared.Arithmetic.{Arithmetic}
 use Rattle.codes.specs.declared.Operator.{Operator}
@@ -13,6 +15,8 @@ use Rattle.codes.specs.declared.Fill.{Fill}
 use Rattle.codes.specs.declared.Mask.{Mask}
 use Rattle.codes.specs.declared.Plain.{Plain}
 use Rattle.codes.specs.declared.Separator.{Separator}
+use Rattle.codes.specs.declared.Class.{Class}
+use Rattle.codes.specs.declared.Test.{Test}
 use Rattle.codes.specs.declared.Conversion.{Conversion}
 use Rattle.codes.specs.declared.Repeat.{Repeat}
 use Rattle.codes.specs.declared.Operand.{Operand}
@@ -82,18 +86,37 @@ unfoldable pub separator-of : Separator → Option ℕ
 separator-of Separator.Absent = none
 separator-of (Separator.Byte b) = some b
 
+unfoldable pub class-of : Class → paper.Class
+class-of Class.Numeric = paper.numeric
+class-of Class.Alpha = paper.alpha
+class-of Class.Character = paper.character
+
+-- a literal's bytes stand in the code string
+unfoldable pub test-of : Bytes → Test → paper.Test
+test-of string (Test.SoMany count class) = paper.so-many count (class-of class)
+test-of string (Test.Literal start len) = paper.literal (take len (drop start string))
+
+abbrev pub patterns-read : Option (List paper.Pattern × Bytes) → List paper.Pattern
+patterns-read none = []
+patterns-read (some r) = r .0
+
+-- the patterns that are read from a place of the code string on
+unfoldable pub patterns-at : Bytes → ℕ → List paper.Pattern
+patterns-at string start = patterns-read (pattern-list (drop start string))
+
 -- a code other than F may point into its code string, as a literal does
 unfoldable pub conversion-of : Bytes → Conversion → paper.Conversion
 conversion-of string (Conversion.Plain p) = paper.plain (plain-of p)
 conversion-of string (Conversion.Mask m) = paper.mask (mask-of m)
 conversion-of string (Conversion.Date digits separator) = paper.date digits (separator-of separator)
+conversion-of string (Conversion.Patterns start tests) = paper.patterns (patterns-at string start)
 
 unfoldable pub repeat-of : Repeat → paper.Repeat
 repeat-of Repeat.Each = paper.each
 repeat-of Repeat.FirstValue = paper.first-value
 repeat-of Repeat.FirstSubvalue = paper.first-subvalue
 
--- a literal's bytes stand in the code string
+-- and so do those of a literal of F
 unfoldable pub operand-of : Bytes → Operand → paper.Operand
 operand-of string (Operand.Attribute number repeat) = paper.attribute number (repeat-of repeat)
 operand-of string (Operand.Literal start len) = paper.literal (take len (drop start string))

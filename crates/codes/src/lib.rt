@@ -1,6 +1,6 @@
 // Document 01, "The code grammar", as values: a code other than F, and an elm whose conversion case carries such a code.
 // Every case has its meaning in specs/Meaning.antt, the paper's own code or elm; contracts above speak through that.
-// A literal is a place in the code string and not a copy.
+// A literal is a place in the code string and not a copy, and so are the patterns of a P code.
 
 // `=` `#` `>` `<` `]` `[`
 pub enum Relation {
@@ -89,11 +89,25 @@ pub enum Separator {
     Byte(u8),
 }
 
-// A code other than F.
+// `N`, `A` or `X`.
+pub enum Class {
+    Numeric,
+    Alpha,
+    Character,
+}
+
+// `nN`, `nA`, `nX`, or a quoted literal.
+pub enum Test {
+    SoMany { count: u64, class: Class },
+    Literal { start: usize, len: usize },
+}
+
+// A code other than F. Of a P code: where its patterns begin, and the tests in all of them.
 pub enum Conversion {
     Plain(Plain),
     Mask(Mask),
     Date { digits: u64, separator: Separator },
+    Patterns { start: usize, tests: u64 },
 }
 
 // An attribute's number is followed by nothing, `R` or `RR`.

@@ -14,11 +14,11 @@ use Rattle.paper.specs.Sizes.{scratch-least, value-mark, subvalue-mark, is-inne
 use Rattle.paper.specs.Refusals.{Res, given, refused, _>>=_, _>>_, refuse_unless_, refusal-of, short-scratch}
 use Rattle.paper.specs.Records.{path, reads}
 use Rattle.paper.specs.Codes.{Code}
-use Rattle.paper.specs.Checking.{Checked, accepted, faulty, check, codes-of, checked-codes, codes-counts, attribute-loads, other-steps}
+use Rattle.paper.specs.Checking.{Checked, accepted, faulty, check, codes-of, checked-codes, codes-counts}
 use Rattle.paper.specs.Converting.{Element, elements, lawful-place, lawful-code, ready, convert, ceiling, counted-ceiling}
 use Rattle.paper.proofs.Ceiling.{steps-within-ceiling, ceiling-counted}
 use Rattle.judging.specs.Verdicts.{verdict-of}
-use Rattle.judging.specs.Tallies.{counts-in}
+use Rattle.judging.specs.Tallies.{counts-in, counts-of, steps}
 use Rattle.judging.specs.declared.Verdict.{Verdict}
 use Rattle.judging.specs.declared.Counts.{Counts}
 use Rattle.judging.proofs.Walking.{accepted-steps}
@@ -76,15 +76,21 @@ marks-few (b ∷ bs) = go (is-inner-mark b) (marks-few bs)
     go false h = omega arith
 
 -- none of the ceiling's products wraps
-module _ {m loads others size : ℕ} (figures : Figures m loads others size) where
-  pub loads-fit : loads * (1_025 + size) ≤ 256 * 33_793
+module _ {m size : ℕ} (k : Counts) (figures : Figures m (steps k) size) where
+  pub loads-fit : k .loads * (1_025 + size) ≤ 256 * 33_793
+  unfolding steps
   loads-fit = mul-le-mul {n₂ = 256} {m₂ = 33_793} (omega (arith, figures .steps)) (omega (arith, figures .record-fits))
 
-  pub others-fit : others * 4_097 ≤ 256 * 4_097
-  others-fit = mul-le-mul {n₂ = 256} {m₂ = 4_097} (omega (arith, figures .steps)) (omega arith)
+  -- what is counted by a number: B, T and P
+  pub counted-fit : (k .others * 4_097 ≤ 256 * 4_097) × (k .tests * 1_025 ≤ 256 * 1_025) × (k .patterns * 1_025 ≤ 256 * 1_025)
+  unfolding steps
+  counted-fit = (omega (arith, figures .steps), omega (arith, figures .steps), omega (arith, figures .steps))
 
-  pub ceiling-fits : m * (loads * (1_025 + size) + others * 4_097) ≤ 32_769 * (256 * 33_793 + 256 * 4_097)
-  ceiling-fits = mul-le-mul {n₂ = 32_769} {m₂ = 256 * 33_793 + 256 * 4_097} (omega (arith, figures .elements)) (omega (arith, loads-fit, others-fit))
+  abbrev all-fit : ℕ
+  all-fit = 256 * 33_793 + 256 * 4_097 + (256 * 1_025 + 256 * 1_025)
+
+  pub ceiling-fits : m * (k .loads * (1_025 + size) + k .others * 4_097 + (k .tests * 1_025 + k .patterns * 1_025)) ≤ 32_769 * all-fit
+  ceiling-fits = mul-le-mul {n₂ = 32_769} {m₂ = all-fit} (omega (arith, figures .elements)) (omega (arith, loads-fit, counted-fit))
 
 module _ (item string : Bytes) (a v s : ℕ) where
   -- refused before the run
@@ -97,27 +103,27 @@ module _ (item string : Bytes) (a v s : ℕ) where
     unfolding lawful-find lawful-place ceiling-of ceiling-told checked-codes
     code-uncapped n k e = rw (lawful, e)
 
-    -- accepted: A and B are the verdict's, and m is one more than the marks
+    -- accepted: A, B, P and T are the verdict's, and m is one more than the marks
     module _ {counts : Counts} {n : ℕ} {verdict : Verdict} {text : Bytes} (accepts : verdict ≡ Verdict.Accepted counts)
         (checked : verdict ≡ verdict-of (check string)) (read : text ≡ reads item (path a v s)) (counted : n ≡ inner-marks text) where
-      codes : (c : Checked) → check string ≡ c → (cs : List Code) × (check string ≡ accepted cs) × (attribute-loads cs ≡ counts .loads) × (other-steps cs ≡ counts .others)
-      unfolding verdict-of attribute-loads other-steps
+      codes : (c : Checked) → check string ≡ c → (cs : List Code) × (check string ≡ accepted cs) × (counts-in (codes-counts cs) ≡ counts)
+      unfolding verdict-of
       codes (accepted cs) e =
           let same : Verdict.Accepted (counts-in (codes-counts cs)) ≡ Verdict.Accepted counts = sym (ap verdict-of e) ∙ sym checked ∙ accepts in
           let told : counts-in (codes-counts cs) ≡ counts = cc in
-          (cs, e, ap (λ (k : Counts). k .loads) told, ap (λ (k : Counts). k .others) told)
+          (cs, e, told)
       codes (faulty k l) e =
           let not-so : Verdict.Refused k l ≡ Verdict.Accepted counts = sym (ap verdict-of e) ∙ sym checked ∙ accepts in
           let z : _≡_ {A = ℕ} 0 1 = cc in
           absurd (omega arith)
 
-      pub figures : Figures (1 + n) (counts .loads) (counts .others) (length item)
+      pub figures : Figures (1 + n) (steps counts) (length item)
       figures =
-          let (cs, e, f, g) = codes (check string) refl in
+          let (cs, e, f) = codes (check string) refl in
           let numbers = lawful-numbers item a v s lawful in
           record {
             elements = rw (counted, read) (omega (arith, marks-few (reads item (path a v s)), reads-short item (path a v s), numbers .record-fits));
-            steps = omega (arith, accepted-steps string cs e, f, g);
+            steps = omega (arith, accepted-steps string cs e, ap steps f);
             record-fits = numbers .record-fits;
           }
 
@@ -126,9 +132,12 @@ module _ (item string : Bytes) (a v s : ℕ) where
           ap length (elements-walked item a v s (lawful-numbers item a v s lawful .whole)) ∙ walked-length _ _ _ _
           ∙ ap (λ (x : ℕ). 1 + x) (sym (counted ∙ ap inner-marks read))
 
-      pub capped : {most : ℕ} → most ≡ counted-ceiling (counts .loads) (counts .others) (length item) (1 + n) → Bound.Most most ≡ ceiling-told (ceiling-of item string a v s)
+      pub capped : {most : ℕ} → most ≡ counted-ceiling (counts-of counts) (length item) (1 + n) → Bound.Most most ≡ ceiling-told (ceiling-of item string a v s)
       unfolding lawful-find lawful-place ceiling-of ceiling-told checked-codes
-      capped h = let (cs, e, f, g) = codes (check string) refl in rw (lawful, e, ceiling-counted, f, g, elements-counted) (ap Bound.Most h)
+      capped h =
+          let (cs, e, f) = codes (check string) refl in
+          let same : codes-counts cs ≡ counts-of counts = ap counts-of f in
+          rw (lawful, e, ceiling-counted, same, elements-counted) (ap Bound.Most h)
 
 -- the ceiling beside the conversion itself
 module _ (item string : Bytes) (a v s budget room scratch : ℕ) where

@@ -107,7 +107,7 @@ module _ (κs : Lfts 3) (args : _) (r : _) (exits : _) (post : convert-call.Post
     report-is = checked .1 ∙ ap (λ (b : Bytes). report (check b)) same
 
     -- the count is never above the ceiling of its A and B
-    pub steps-at-most-ceiling : r .steps ≤ counted-ceiling (report-in verdict .loads) (report-in verdict .others) (length item) (length (elements item a v s))
+    pub steps-at-most-ceiling : r .steps ≤ counted-ceiling (report-in verdict .steps) (length item) (length (elements item a v s))
     steps-at-most-ceiling = rw (steps-is, report-is, ← ceiling-reported) (steps-within-ceiling item code a v s budget room scratch)
 
     accepted : report-in verdict .refusal ≡ 0 → Accepts code

@@ -21,8 +21,8 @@ unfoldable pub ceiling-told : Res ℕ → Bound
 ceiling-told (given n) = Bound.Most n
 ceiling-told (refused n) = Bound.Refused n
 
--- figures with which no product of the ceiling wraps: m of a record, A and B of an accepted string, R
-pub record Figures (m loads others size : ℕ) : Type 0 where
+-- figures with which no product of the ceiling wraps: m of a record, A, B, P and T of an accepted string in all, R
+pub record Figures (m counted size : ℕ) : Type 0 where
   pub elements : m ≤ 1 + record-most
-  pub steps : loads + others ≤ 256
+  pub steps : counted ≤ 256
   pub record-fits : size ≤ record-most

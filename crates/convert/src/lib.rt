@@ -16,6 +16,7 @@ ghost use Rattle.paper.specs.Sizes.{scratch-least};
 ghost use Rattle.paper.specs.Refusals.{given};
 ghost use Rattle.paper.specs.Converting.{from-one, within-budget, run, output-after, scratch-after, counted-ceiling};
 ghost use Rattle.records.specs.Found.{lawful-find};
+ghost use Rattle.judging.specs.Tallies.{counts-of, steps};
 ghost use Rattle.judging.specs.Verdicts.{report-in};
 ghost use Rattle.elements.specs.Running.{codes-in, Accepts, Walks};
 ghost use Rattle.convert.specs.Marks.{inner-marks};
@@ -169,8 +170,9 @@ pub enum Bound {
     Refused(u64),
 }
 
-// "1,025 + R" and "4,097": what an attribute load costs at most beside the record's length, and what any other step costs at most.
-const LOAD_MOST: u64 = 1 + Limit::ENTRY.most as u64;
+// "1,025" and "4,097": what an attribute load costs at most beside the record's length, and so a test of a P code, and the code beside its tests;
+// what any other step costs at most.
+const ENTRY_MOST: u64 = 1 + Limit::ENTRY.most as u64;
 
 const OTHER_MOST: u64 = 1 + 4 * Limit::ENTRY.most as u64;
 
@@ -190,12 +192,14 @@ fn inner_marks(text: &[u8]) -> u64
     n
 }
 
-// "Ceiling: with A attribute loads and B other steps in the string, record length R and m elements, m x (A x (1,025 + R) + B x 4,097)."
+// "Ceiling: with A attribute loads and B other steps in the string, record length R and m elements, m x (A x (1,025 + R) + B x 4,097)", and of a
+// P code "T x 1,025 + 1,025".
 fn most_steps(m: u64, counts: Counts, size: u64) -> u64
-    requires { ⌜ Figures m (counts .loads) (counts .others) size ⌝ }
-    ensures { λ r. ⌜ r ≡ counted-ceiling (counts .loads) (counts .others) size m ⌝ }
+    requires { ⌜ Figures m (steps counts) size ⌝ }
+    ensures { λ r. ⌜ r ≡ counted-ceiling (counts-of counts) size m ⌝ }
 {
-    m * (counts.loads * (LOAD_MOST + size) + counts.others * OTHER_MOST)
+    let patterns = counts.tests * ENTRY_MOST + counts.patterns * ENTRY_MOST;
+    m * (counts.loads * (ENTRY_MOST + size) + counts.others * OTHER_MOST + patterns)
 }
 
 // The ceiling of a conversion: refused as that is before its run, but for the scratch, which no ceiling asks for.

@@ -8,12 +8,13 @@ use texts::Class;
 ghost use mathlib.Core.Path.{_≡_};
 ghost use Prim.Native.Nat.{_≤_};
 ghost use lib.ListN.{length};
-ghost use Rattle.paper.specs.Sizes.{entry-most};
+ghost use Rattle.paper.specs.Sizes.{code-most, entry-most};
 ghost use Rattle.paper.specs.Answers.{given-of, written};
 ghost use Rattle.paper.specs.Texts.{plain-gives};
-ghost use Rattle.paper.specs.Steps.{limited, conversion-gives};
+ghost use Rattle.paper.specs.Steps.{limited, conversion-gives, charged};
 ghost use Rattle.codes.specs.Meaning.{plain-of, conversion-of};
-ghost use Rattle.giving.specs.Bounds.{Conversion-within};
+ghost use Rattle.codes.specs.Counting.{kind-of};
+ghost use Rattle.giving.specs.Bounds.{Conversion-within, tests-of, charged-most};
 
 // G, T, L, MC, MX and MY.
 fn give_plain(plain: Plain, e: &[u8], out: &mut [u8]) -> Given
@@ -53,5 +54,23 @@ pub fn give(conversion: Conversion, code: &[u8], e: &[u8], out: &mut [u8]) -> Gi
         Conversion::Plain(plain) => give_plain(plain, e, out),
         Conversion::Mask(mask) => masks::give(e, mask, out),
         Conversion::Date { digits, separator } => dates::printing::give(e, digits, separator, out),
+        Conversion::Patterns { start, tests: _ } => patterns::give(code, start, e, out),
+    }
+}
+
+// "1 + the bytes it takes + the bytes it puts", and of P "1 + T x (element length + 1) + bytes put": what stands between, for so many bytes taken.
+pub fn charged(conversion: Conversion, taken: u64) -> u64
+    requires { ⌜ (taken ≤ entry-most) × (tests-of (kind-of conversion) ≤ code-most) ⌝ }
+    ensures { λ r. ⌜ r ≡ charged (kind-of conversion) 0 taken ⌝ }
+    ensures { λ r. ⌜ r ≤ charged-most ⌝ }
+{
+    match conversion {
+        Conversion::Plain(_) => taken,
+        Conversion::Mask(_) => taken,
+        Conversion::Date {
+            digits: _,
+            separator: _,
+        } => taken,
+        Conversion::Patterns { start: _, tests } => tests * (taken + 1),
     }
 }

@@ -1,14 +1,10 @@
 -- Each line of the grammar of elms, by place, agrees with the paper's line.
-use Prim.Native.Nat.{ℕ, suc, _<_, _≤_, _+_, _-_}
-use mathlib.Core.Path.{_≡_}
-use mathlib.Core.Bool.{Bool, true, false}
+use Prim.Native.Nat.{ℕ, suc, _≤_}
+use mathlib.Core.Path.{refl}
 use mathlib.Core.List.{List, [], _∷_, _++_}
-use mathlib.Core.Option.{Option, none, some}
-use lib.ListN.{length, take, drop, length-drop}
-use lib.Seq.{drop-drop}
-use lib.Dec.{eqb}
+use lib.ListN.{length, drop}
 use native.Mathlib.Omega.{arith}
-use Rattle.paper.specs.Bytes.{Bytes, if_then_else_}
+use Rattle.paper.specs.Bytes.{Bytes}
 use Rattle.paper.specs.Grammar as paper
 use Rattle.paper.specs.Codes as codes
 use Rattle.paper.specs.Numbers as numbers
@@ -21,40 +17,15 @@ use Rattle.codes.specs.declared.Operand.{Operand}
 use Rattle.codes.specs.declared.Elm.{Elm}
 use Rattle.readers.specs.Places.{fails, choose-or}
 use Rattle.grammar.specs.Reading as place
-use Rattle.readers.proofs.Agreement.{Agree, neither, both, Agrees, no-more, option, gives-agrees, chooses, digit-aheads, follow-agrees, choose-agrees, numeral-ahead-agrees, this-agrees, moved}
+use Rattle.readers.proofs.Agreement.{Agree, neither, Agrees, no-more, option, gives-agrees, chooses, digit-aheads, follow-agrees, choose-agrees, numeral-ahead-agrees, this-agrees, moved}
+use Rattle.readers.proofs.Quotes.{literal-agrees}
 use Rattle.readers.proofs.AgreementLines.{conversion-agrees}
 
--- The bytes before a quote: where the quote is found, what the paper's reader takes and leaves.
-data Closed (q : ℕ) (bs : Bytes) (at : ℕ) : Option ℕ → Option (Bytes × Bytes) → Type 0 where
-  unclosed : Closed q bs at none none
-  closed : (k n : ℕ) → n ≡ at + k → k < length bs → Closed q bs at (some n) (some (take k bs, drop (suc k) bs))
-
-closings : (q : ℕ) (bs : Bytes) (at : ℕ) → Closed q bs at (place.closing q bs at) (paper.quoted q bs)
-unfolding place.closing paper.quoted
-closings q [] at = unclosed
-closings q (b ∷ bs) at = go (eqb b q) (closings q bs (suc at))
-  where
-    onward : {o : Option ℕ} {r : Option (Bytes × Bytes)} → Closed q bs (suc at) o r → Closed q (b ∷ bs) at o (paper.onto b r)
-    onward unclosed = unclosed
-    onward (closed k n e h) = closed (suc k) n (omega arith) (omega arith)
-
-    go : (t : Bool) → Closed q bs (suc at) (place.closing q bs (suc at)) (paper.quoted q bs) → Closed q (b ∷ bs) at (if t then some at else place.closing q bs (suc at)) (if t then some ([], bs) else paper.onto b (paper.quoted q bs))
-    go true c = closed 0 at (omega arith) (omega arith)
-    go false c = onward c
-
-literal-agrees : {s : Bytes} {low : ℕ} (q : ℕ) → Agrees (elm-of s) s low (place.literal-elm q) (paper.literal-elm q)
-unfolding place.literal-elm paper.literal-elm elm-of operand-of
-literal-agrees {s} {low} q = record { at = λ n l u. go n l u (closings q (drop n s) n) }
-  where
-    go : (at : ℕ) → low ≤ at → at ≤ length s → {o : Option ℕ} {r : Option (Bytes × Bytes)} → Closed q (drop at s) at o r → Agree (elm-of s) s low (place.placed-literal at o) (paper.follow r (λ bs. paper.gives (codes.push (codes.literal bs))))
-    go at l u unclosed = neither
-    go at l u (closed k n e h) =
-        let x : at + suc k ≡ n + 1 = omega arith in
-        let y : k ≡ n - at = omega arith in
-        let z : n + 1 ≤ length s = omega (arith, length-drop at s) in
-        rw (drop-drop, x, y) (both (Elm.Push (Operand.Literal at (n - at))) (n + 1) (omega arith) z)
-
 module _ {s : Bytes} {low : ℕ} where
+  literal-elm-agrees : (q : ℕ) → Agrees (elm-of s) s low (place.literal-elm q) (paper.literal-elm q)
+  unfolding place.literal-elm paper.literal-elm elm-of operand-of
+  literal-elm-agrees q = literal-agrees (λ start len. Elm.Push (Operand.Literal start len)) (λ bs. codes.push (codes.Operand.literal bs)) q (λ start len. refl)
+
   repeats-agrees : Agrees repeat-of s low place.repeats paper.repeats
   unfolding place.repeats paper.repeats repeat-of
   repeats-agrees = chooses tt (option (chooses tt (option (gives-agrees Repeat.FirstSubvalue) no-more) (gives-agrees Repeat.FirstValue)) no-more) (gives-agrees Repeat.Each)
@@ -131,7 +102,7 @@ module _ {s : Bytes} {low : ℕ} (at : ℕ) (g : low ≤ suc at) (h : at ≤ len
       (choose-or ((91, place.bracket-elm) ∷ (40, place.converting-elm) ∷ []) place.single-elm)
       (paper.choose (single-options ++ (91, paper.bracket-elm) ∷ (40, paper.converting-elm) ∷ []))
       at tt g h
-      (option (literal-agrees 39) (option (literal-agrees 34) (option previous-agrees (option multiply-agrees no-more))))
+      (option (literal-elm-agrees 39) (option (literal-elm-agrees 34) (option previous-agrees (option multiply-agrees no-more))))
       bracketed-agrees
 
   elm-at-agrees : Agree (elm-of s) s low (place.elm s at) (paper.elm (drop at s))

@@ -1,12 +1,13 @@
 -- What the head of a code says is what the paper reads.
 use Prim.Native.Nat.{ℕ, _≤_}
-use mathlib.Core.Path.{_≡_, refl}
+use mathlib.Core.Path.{_≡_, refl, ap, _∙_}
 use mathlib.Core.Bool.{Bool, true, false}
 use mathlib.Core.List.{List, [], _∷_}
 use mathlib.Core.Option.{Option, none, some}
 use lib.ListN.{length}
 use lib.Dec.{eqb}
 use native.Mathlib.Omega.{arith}
+use borrow.Author.Tests.{eqb-true}
 use Rattle.paper.specs.Bytes.{Bytes, if_then_else_, any}
 use Rattle.paper.specs.Sizes.{is-mark}
 use Rattle.paper.specs.Grammar as paper
@@ -99,3 +100,25 @@ head-first (b ∷ c ∷ s) first e = (go (eqb 70 b) (eqb 59 c) e, omega arith)
     go true true e = cc
     go true false e = let z : _≡_ {A = ℕ} 0 1 = cc in absurd (omega arith)
     go false u e = absurd (whole-other (length (b ∷ c ∷ s)) (place.conversion (b ∷ c ∷ s) 0) first e)
+
+-- a code that stands alone is read whole
+pub head-single : (s : Bytes) {c : Conversion} → head s ≡ some (Head.Single c) → place.conversion s 0 ≡ some (c, length s)
+unfolding head
+head-single s {c} h = go (eqb 70 (byte-at s 0)) (eqb 59 (byte-at s 1)) h
+  where
+    alone : (o : Option (Conversion × ℕ)) → place.conversion s 0 ≡ o → whole (length s) o ≡ some (Head.Single c) → place.conversion s 0 ≡ some (c, length s)
+    alone none f e = let z : _≡_ {A = ℕ} 0 1 = cc in absurd (omega arith)
+    alone (some r) f e = pick (eqb (r .1) (length s)) refl e
+      where
+        pick : (t : Bool) → eqb (r .1) (length s) ≡ t → (if t then some (Head.Single (r .0)) else none) ≡ some (Head.Single c)
+            → place.conversion s 0 ≡ some (c, length s)
+        pick true q e =
+            let same : r .0 ≡ c = cc in
+            f ∙ ap (λ (k : Conversion). some (k, r .1)) same ∙ ap (λ (n : ℕ). some (c, n)) (eqb-true (r .1) (length s) q)
+        pick false q e = let z : _≡_ {A = ℕ} 0 1 = cc in absurd (omega arith)
+
+    go : (t u : Bool) → (if t then (if u then some (Head.Function 2) else none) else whole (length s) (place.conversion s 0)) ≡ some (Head.Single c)
+        → place.conversion s 0 ≡ some (c, length s)
+    go true true e = let z : _≡_ {A = ℕ} 0 1 = cc in absurd (omega arith)
+    go true false e = let z : _≡_ {A = ℕ} 0 1 = cc in absurd (omega arith)
+    go false u e = alone (place.conversion s 0) refl e

@@ -1,17 +1,14 @@
 -- Document 01, "The code grammar", by place: the elms of F, the lines of crates/paper/specs/Grammar.antt in their order, as the enums of `codes`.
-use Prim.Native.Nat.{ℕ, suc, _+_, _-_}
+use Prim.Native.Nat.{ℕ}
 use mathlib.Core.List.{[], _∷_}
-use mathlib.Core.Option.{Option, none, some}
-use lib.ListN.{drop}
-use lib.Dec.{eqb}
-use Rattle.paper.specs.Bytes.{Bytes, if_then_else_, ch}
+use Rattle.paper.specs.Bytes.{ch}
 use Rattle.codes.specs.declared.Relation.{Relation}
 use Rattle.codes.specs.declared.Arithmetic.{Arithmetic}
 use Rattle.codes.specs.declared.Operator.{Operator}
 use Rattle.codes.specs.declared.Repeat.{Repeat}
 use Rattle.codes.specs.declared.Operand.{Operand}
 use Rattle.codes.specs.declared.Elm.{Elm}
-use Rattle.readers.specs.Places.{Placed, _>>=_, _>>_, gives, digit-ahead, choose, choose-or, this, numeral-ahead}
+use Rattle.readers.specs.Places.{Placed, _>>=_, _>>_, gives, digit-ahead, choose, choose-or, this, numeral-ahead, literal}
 use Rattle.readers.specs.Reading.{conversion}
 
 -- "1 to 3 digits, then nothing, `R` or `RR` (an attribute)"
@@ -24,19 +21,9 @@ repeats =
 unfoldable pub attribute-elm : ℕ → Placed Elm
 attribute-elm n = repeats >>= λ r. gives (Elm.Push (Operand.Attribute n r))
 
--- the place of the first byte q from `at` on, where these bytes begin
-unfoldable pub closing : ℕ → Bytes → ℕ → Option ℕ
-closing q [] at = none
-closing q (b ∷ bs) at = if eqb b q then some at else closing q bs (suc at)
-
--- a literal is the bytes from `start` up to the quote's place
-abbrev pub placed-literal : ℕ → Option ℕ → Option (Elm × ℕ)
-placed-literal start none = none
-placed-literal start (some close) = some (Elm.Push (Operand.Literal start (close - start)), close + 1)
-
 -- "zero or more bytes in `'` or `"`, without that quote"
 unfoldable pub literal-elm : ℕ → Placed Elm
-literal-elm q s at = placed-literal at (closing q (drop at s) at)
+literal-elm = literal (λ start len. Elm.Push (Operand.Literal start len))
 
 -- `LPV`
 unfoldable pub previous-elm : Placed Elm

@@ -9,10 +9,12 @@ use codes::Relation;
 use codes::Repeat;
 use readers::ReadConversion;
 use readers::ReadNum;
+use readers::ReadQuoted;
 use readers::conversions::conversion;
 use readers::places::digit;
 use readers::places::numeral;
 use readers::places::peek;
+use readers::places::quoted;
 ghost use mathlib.Core.Path.{_≡_};
 ghost use mathlib.Core.Option.{some};
 ghost use Rattle.grammar.specs.Answers.{elm-read};
@@ -73,20 +75,14 @@ fn attribute_elm(code: &[u8], at: usize, number: u64) -> ReadElm
 fn literal_elm(code: &[u8], from: usize, quote: u8) -> ReadElm
     ensures { λ r. ⌜ r ≡ elm-read (literal-elm quote (now (code .entry)) from) ⌝ }
 {
-    let mut at = from;
-    while at < code.len() {
-        if code[at] == quote {
-            return ReadElm::Elm {
-                elm: Elm::Push(Operand::Literal {
-                    start: from,
-                    len: at - from,
-                }),
-                next: at + 1,
-            };
-        }
-        at += 1;
+    let read = quoted(code, from, quote);
+    let ReadQuoted::Quoted { len, next } = read else {
+        return ReadElm::Refused(read.refusal());
+    };
+    ReadElm::Elm {
+        elm: Elm::Push(Operand::Literal { start: from, len }),
+        next,
     }
-    ReadElm::Refused(paper::refusal::NOT_IN_GRAMMAR)
 }
 
 // `PV` of `LPV`

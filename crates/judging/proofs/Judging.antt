@@ -21,12 +21,16 @@ use Rattle.grammar.specs.declared.Head.{Head}
 use Rattle.readers.proofs.Bytes.{peeked-inside}
 use Rattle.grammar.proofs.Parted.{elm-onto, elms-none, elms-last, elms-more, elms-stray}
 use Rattle.grammar.proofs.HeadReads.{functioned, read-by, head-reads, marks-read}
-use Rattle.judging.specs.Tallies.{counts-in, none-yet, tally-after, tally-all, judgement-of}
+use Rattle.codes.specs.Counting.{kind-of}
+use Rattle.readers.proofs.Counted.{counted-kind}
+use Rattle.grammar.proofs.Counted.{head-counted}
+use Rattle.judging.specs.declared.Kind.{Kind}
+use Rattle.judging.specs.Tallies.{counts-in, kind-in, step-kind, none-yet, tally-after, tally-all, judgement-of}
 use Rattle.judging.specs.Verdicts.{finished, judged-of}
 use Rattle.judging.specs.declared.Counts.{Counts}
 use Rattle.judging.specs.declared.Tally.{Tally}
 use Rattle.judging.specs.declared.Judged.{Judged}
-use Rattle.judging.proofs.Tallying.{none-added, told, tallied}
+use Rattle.judging.proofs.Tallying.{none-added, kind-back, told, tallied}
 
 -- an elm, and those that follow
 finished-onto : (e : codes.Elm) (t : Tally) (o : Option (List codes.Elm)) → finished (elm-onto e o) t ≡ finished o (tally-after e t)
@@ -87,9 +91,11 @@ module _ (s : Bytes) where
     pub judged-function : {first : ℕ} → head s ≡ some (Head.Function first) → finished (elms-from s first) none-yet ≡ judged-of (judged s)
     judged-function {first} f = sym (by-head f ∙ judging-elms (elms-from s first))
 
-    pub judged-single : {c : Conversion} {k : Counts} → head s ≡ some (Head.Single c) → k ≡ counts-in (step-counts false) → Judged.Lawful k ≡ judged-of (judged s)
+    pub judged-single : {c : Conversion} {kind : Kind} {k : Counts} → head s ≡ some (Head.Single c) → kind ≡ kind-in (kind-of c)
+        → k ≡ counts-in (step-counts (step-kind kind)) → Judged.Lawful k ≡ judged-of (judged s)
     unfolding judging judged-of lawful code-counts
-    judged-single f g = ap Judged.Lawful g ∙ sym (by-head f)
+    judged-single {c} f h g =
+        ap Judged.Lawful (g ∙ rw (h, kind-back, ← counted-kind (head-counted s f))) ∙ sym (by-head f)
 
     pub judged-bad : head s ≡ none → Judged.Faulty 6 ≡ judged-of (judged s)
     unfolding judging judged-of

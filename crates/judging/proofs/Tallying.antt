@@ -11,7 +11,8 @@ use Rattle.paper.specs.Bytes.{if_then_else_}
 use Rattle.paper.specs.Refusals.{Res, given, refused, _>>=_, _>>_, refuse_unless_}
 use Rattle.paper.specs.Codes as paper
 use Rattle.paper.specs.Checking as checking
-use Rattle.judging.specs.Tallies.{counts-in, counts-of, shape-in, no-steps, added, steps, left, room, entries-after, tally-after, tally-all, judgement-of}
+use Rattle.paper.proofs.Weights.{weight}
+use Rattle.judging.specs.Tallies.{counts-in, counts-of, kind-in, step-kind, shape-in, no-steps, added, steps, left, room, entries-after, tally-after, tally-all, judgement-of}
 use Rattle.judging.specs.declared.Counts.{Counts}
 use Rattle.judging.specs.declared.Shape.{Shape}
 use Rattle.judging.specs.declared.Entries.{Entries}
@@ -19,7 +20,7 @@ use Rattle.judging.specs.declared.Tally.{Tally}
 use Rattle.judging.specs.declared.Judged.{Judged}
 
 -- counts: none more, to none, and one after the other
-pub added-none : (c : Counts) → added c (checking.counted 0 0) ≡ c
+pub added-none : (c : Counts) → added c checking.no-steps ≡ c
 unfolding added checking.together
 added-none c = simp add-zero
 
@@ -42,10 +43,16 @@ added-steps c k = omega arith
 pub together-steps : (x y : Counts) {r : Counts} → r ≡ added x (counts-of y) → steps r ≡ steps x + steps y
 together-steps x y e = ap steps e ∙ added-steps x (counts-of y)
 
-pub one-step : (t : Bool) → steps (counts-in (checking.step-counts t)) ≡ 1
+pub one-step : (kind : paper.Kind) → steps (counts-in (checking.step-counts kind)) ≡ weight kind
 unfolding checking.step-counts steps
-one-step true = refl
-one-step false = refl
+one-step paper.loading = refl
+one-step (paper.testing t) = omega arith
+one-step paper.other = refl
+
+pub kind-back : (kind : paper.Kind) → step-kind (kind-in kind) ≡ kind
+kind-back paper.loading = refl
+kind-back (paper.testing t) = refl
+kind-back paper.other = refl
 
 -- the paper's check of one elm, by whether it has room
 stacked-room : (e : paper.Elm) (held : ℕ) → let z = shape-in (checking.shape e) in checking.stacked e held ≡ (if room z held then given (left z held) else refused 7)
@@ -72,7 +79,7 @@ tallied [] t = rw (added-none (t .counts)) (go (t .faulty))
     go false = refl
 tallied (e ∷ es) t =
     tallied es (tally-after e t)
-    ∙ rw (added-more (t .counts) (checking.step-counts (checking.shape e .loads)) (checking.elms-counts es), stacked-room e (t .held)) (go (t .faulty) (room (shape-in (checking.shape e)) (t .held)) _ _)
+    ∙ rw (added-more (t .counts) (checking.step-counts (checking.shape e .kind)) (checking.elms-counts es), stacked-room e (t .held)) (go (t .faulty) (room (shape-in (checking.shape e)) (t .held)) _ _)
   where
     go : (f r : Bool) (n : ℕ) (all : Counts)
         → let x : Entries = if f then record { held = t .held; faulty = true } else (if r then record { held = n; faulty = false } else record { held = t .held; faulty = true }) in
@@ -83,14 +90,14 @@ tallied (e ∷ es) t =
 
 -- One elm more: what the code finds of its shape, entries and steps is the tally after it.
 pub after-is : (e : paper.Elm) (t : Tally) {z : Shape} {x : Entries} {o c : Counts} → z ≡ shape-in (checking.shape e) → x ≡ entries-after z (t .held) (t .faulty)
-    → o ≡ counts-in (checking.step-counts (z .loads)) → c ≡ added (t .counts) (counts-of o) → record { held = x .held; faulty = x .faulty; counts = c } ≡ tally-after e t
+    → o ≡ counts-in (checking.step-counts (step-kind (z .kind))) → c ≡ added (t .counts) (counts-of o) → record { held = x .held; faulty = x .faulty; counts = c } ≡ tally-after e t
 unfolding tally-after
-after-is e t k x g j = rw (j, g, x, k)
+after-is e t k x g j = rw (j, g, x, k, kind-back (checking.shape e .kind))
 
 module _ (e : paper.Elm) (t : Tally) {u : Tally} (g : u ≡ tally-after e t) where
-  pub after-steps : steps (u .counts) ≡ steps (t .counts) + 1
+  pub after-steps : steps (u .counts) ≡ steps (t .counts) + weight (checking.shape e .kind)
   unfolding tally-after
-  after-steps = rw g (omega (arith, added-steps (t .counts) (checking.step-counts (checking.shape e .loads)), one-step (checking.shape e .loads)))
+  after-steps = rw g (omega (arith, added-steps (t .counts) (checking.step-counts (checking.shape e .kind)), one-step (checking.shape e .kind)))
 
   pub after-held : t .held ≤ 16 → u .held ≤ 16
   unfolding tally-after entries-after room
@@ -103,16 +110,13 @@ module _ (e : paper.Elm) (t : Tally) {u : Tally} (g : u ≡ tally-after e t) whe
       go false true false n q = h
       go false false y n q = h
 
-pub puts-small : (e : paper.Elm) {z : Shape} → z ≡ shape-in (checking.shape e) → z .puts ≤ 2
+pub puts-small : (e : paper.Elm) → checking.shape e .puts ≤ 2
 unfolding checking.shape
-puts-small e k = rw k (go e)
-  where
-    go : (e : paper.Elm) → checking.shape e .puts ≤ 2
-    go (paper.push (paper.attribute n r)) = omega arith
-    go (paper.push (paper.literal bs)) = omega arith
-    go (paper.push paper.previous) = omega arith
-    go (paper.binary o) = omega arith
-    go paper.substring = omega arith
-    go paper.exchange = omega arith
-    go paper.duplicate = omega arith
-    go (paper.convert c) = omega arith
+puts-small (paper.push (paper.attribute n r)) = omega arith
+puts-small (paper.push (paper.literal bs)) = omega arith
+puts-small (paper.push paper.previous) = omega arith
+puts-small (paper.binary o) = omega arith
+puts-small paper.substring = omega arith
+puts-small paper.exchange = omega arith
+puts-small paper.duplicate = omega arith
+puts-small (paper.convert c) = omega arith

@@ -15,7 +15,7 @@ use Rattle.paper.specs.Sizes.{is-mark}
 use Rattle.paper.specs.Records.{split}
 use Rattle.paper.specs.Refusals.{Res, given, refused}
 use Rattle.paper.specs.Codes as codes
-use Rattle.paper.specs.Checking.{judged, judged-all, in-front, code-texts, check, Checked, accepted, faulty, code-counts, codes-counts, attribute-loads, other-steps, report}
+use Rattle.paper.specs.Checking.{judged, judged-all, in-front, code-texts, check, Checked, accepted, faulty, code-counts, codes-counts, report}
 use Rattle.lent.specs.Scan.{range, upto}
 use Rattle.grammar.specs.Heads.{code-end}
 use Rattle.judging.specs.Tallies.{counts-in, counts-of, no-steps, added}
@@ -148,9 +148,9 @@ unfolding check code-texts
 check-parts [] h k = absurd (k refl)
 check-parts (b ∷ s) h k = rw (le-leb (suc (length s)) 512 h)
 
--- the paper's four numbers
+-- the paper's numbers
 reports : (r : Checked) → report-in (verdict-of r) ≡ report r
-unfolding report-in verdict-of report attribute-loads other-steps
+unfolding report-in verdict-of report
 reports (accepted cs) = refl
 reports (faulty n k) = refl
 

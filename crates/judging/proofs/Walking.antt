@@ -14,7 +14,7 @@ use Rattle.paper.specs.Refusals.{Res, given, refused, _>>_}
 use Rattle.paper.specs.Records.{opened, split}
 use Rattle.paper.specs.Grammar as paper
 use Rattle.paper.specs.Codes as codes
-use Rattle.paper.specs.Checking.{lawful, judged, judged-all, in-turn, check, Checked, accepted, faulty, code-counts, codes-counts, attribute-loads, other-steps}
+use Rattle.paper.specs.Checking.{lawful, judged, judged-all, in-turn, check, Checked, accepted, faulty, code-counts, codes-counts}
 use Rattle.codes.specs.Meaning.{elm-of}
 use Rattle.codes.specs.declared.Elm.{Elm}
 use Rattle.readers.specs.Places.{byte-at, after}
@@ -148,9 +148,9 @@ steps-within k (p ∷ ps) cs e =
     let w = code-sized p (r .0) (judged-read p (r .0) (r .2)) in
     rw (← (r .4)) (omega (arith, steps-together (code-counts (r .0)) (codes-counts (r .1))))
 
--- A and B of a string: no more than 256 steps
-pub accepted-steps : (s : Bytes) (cs : List codes.Code) → check s ≡ accepted cs → attribute-loads cs + other-steps cs ≤ 256
-unfolding attribute-loads other-steps steps codes-counts
+-- A, B, P and T of a string: no more than 256 in all
+pub accepted-steps : (s : Bytes) (cs : List codes.Code) → check s ≡ accepted cs → steps (counts-in (codes-counts cs)) ≤ 256
+unfolding steps codes-counts
 accepted-steps s cs e = ⊎-elim filled bare (ltb-or 0 (length s))
   where
     filled : 0 < length s → steps (counts-in (codes-counts cs)) ≤ 256

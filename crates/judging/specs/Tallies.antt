@@ -9,6 +9,7 @@ use Rattle.paper.specs.Refusals.{stack-fault}
 use Rattle.paper.specs.Codes as paper
 use Rattle.paper.specs.Checking as checking
 use Rattle.judging.specs.declared.Counts.{Counts}
+use Rattle.judging.specs.declared.Kind.{Kind}
 use Rattle.judging.specs.declared.Shape.{Shape}
 use Rattle.judging.specs.declared.Entries.{Entries}
 use Rattle.judging.specs.declared.Tally.{Tally}
@@ -16,23 +17,33 @@ use Rattle.judging.specs.declared.Judged.{Judged}
 
 -- the paper's records and the code's, field by field
 abbrev pub counts-in : checking.Counts → Counts
-counts-in c = record { loads = c .loads; others = c .others }
+counts-in c = record { loads = c .loads; others = c .others; patterns = c .patterns; tests = c .tests }
 
 abbrev pub counts-of : Counts → checking.Counts
-counts-of c = record { loads = c .loads; others = c .others }
+counts-of c = record { loads = c .loads; others = c .others; patterns = c .patterns; tests = c .tests }
+
+abbrev pub kind-in : paper.Kind → Kind
+kind-in paper.loading = Kind.Loading
+kind-in (paper.testing t) = Kind.Testing t
+kind-in paper.other = Kind.Other
+
+abbrev pub step-kind : Kind → paper.Kind
+step-kind Kind.Loading = paper.loading
+step-kind (Kind.Testing t) = paper.testing t
+step-kind Kind.Other = paper.other
 
 abbrev pub shape-in : paper.Shape → Shape
-shape-in s = record { takes = s .takes; puts = s .puts; loads = s .loads }
+shape-in s = record { takes = s .takes; puts = s .puts; kind = kind-in (s .kind) }
 
 abbrev pub no-steps : Counts
-no-steps = counts-in (checking.counted 0 0)
+no-steps = counts-in checking.no-steps
 
 unfoldable pub added : Counts → checking.Counts → Counts
 added c more = counts-in (checking.together (counts-of c) more)
 
--- steps of every kind
+-- steps of every kind, and the tests in them
 unfoldable pub steps : Counts → ℕ
-steps c = c .loads + c .others
+steps c = c .loads + c .others + c .patterns + c .tests
 
 -- refusal 7, "takes more entries than are there, or would hold 17": whether an elm of this shape has room, and the entries then
 abbrev pub left : Shape → ℕ → ℕ
@@ -57,7 +68,7 @@ tally-after e t =
     record {
       held = entries-after (shape-in (checking.shape e)) (t .held) (t .faulty) .held;
       faulty = entries-after (shape-in (checking.shape e)) (t .held) (t .faulty) .faulty;
-      counts = added (t .counts) (checking.step-counts (checking.shape e .loads));
+      counts = added (t .counts) (checking.step-counts (checking.shape e .kind));
     }
 
 unfoldable pub tally-all : List paper.Elm → Tally → Tally

@@ -9,14 +9,14 @@ use Rattle.paper.specs.Bytes.{Bytes}
 use Rattle.paper.specs.Sizes.{value-mark}
 use Rattle.paper.specs.Refusals.{Res, given, refused, not-in-grammar}
 use Rattle.paper.specs.Codes as paper
-use Rattle.paper.specs.Checking.{code-counts, codes-counts, Checked, accepted, faulty, Report}
-use Rattle.judging.specs.Tallies.{counts-in, added, tally-all, judgement-of}
+use Rattle.paper.specs.Checking.{no-steps, code-counts, codes-counts, Checked, accepted, faulty, Report}
+use Rattle.judging.specs.Tallies.{counts-in, counts-of, added, tally-all, judgement-of}
 use Rattle.judging.specs.declared.Counts.{Counts}
 use Rattle.judging.specs.declared.Tally.{Tally}
 use Rattle.judging.specs.declared.Judged.{Judged}
 use Rattle.judging.specs.declared.Verdict.{Verdict}
 
--- one code: A and B of it, or its fault, 6 or 7
+-- one code: A, B, P and T of it, or its fault, 6 or 7
 unfoldable pub judged-of : Res paper.Code → Judged
 judged-of (given c) = Judged.Lawful (counts-in (code-counts c))
 judged-of (refused n) = Judged.Faulty n
@@ -44,7 +44,7 @@ unfoldable pub verdict-of : Checked → Verdict
 verdict-of (accepted cs) = Verdict.Accepted (counts-in (codes-counts cs))
 verdict-of (faulty n k) = Verdict.Refused n k
 
--- "A number not given here, by any call, is 0": the paper's four numbers in each case
+-- "A number not given here, by any call, is 0": the paper's numbers in each case
 unfoldable pub report-in : Verdict → Report
-report-in (Verdict.Accepted counts) = record { refusal = 0; code-number = 0; loads = counts .loads; others = counts .others }
-report-in (Verdict.Refused number code) = record { refusal = number; code-number = code; loads = 0; others = 0 }
+report-in (Verdict.Accepted counts) = record { refusal = 0; code-number = 0; steps = counts-of counts }
+report-in (Verdict.Refused number code) = record { refusal = number; code-number = code; steps = no-steps }

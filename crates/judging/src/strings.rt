@@ -1,6 +1,7 @@
 // Document 01, "The code grammar": judging one code, and a code string.
 use crate::Judged;
 use crate::Verdict;
+use crate::tallies::conversion_kind;
 use crate::tallies::judgement;
 use crate::tallies::no_steps;
 use crate::tallies::none_yet;
@@ -60,7 +61,7 @@ fn judge(code: &[u8]) -> Judged
     };
     match head {
         Head::Function { first } => judge_elms(code, first),
-        Head::Single(_) => Judged::Lawful(one_step(false)),
+        Head::Single(conversion) => Judged::Lawful(one_step(conversion_kind(conversion))),
     }
 }
 

@@ -1,9 +1,11 @@
-// Document 01, "The code grammar" (refusal 7) and "Steps" (A and B): the shape of an elm, and what the elms of an F code come to.
+// Document 01, "The code grammar" (refusal 7) and "Steps" (A and B), and document 02, L1: the shape of an elm, and what the elms of an F code come to.
 use crate::Counts;
 use crate::Entries;
 use crate::Judged;
+use crate::Kind;
 use crate::Shape;
 use crate::Tally;
+use codes::Conversion;
 use codes::Elm;
 use codes::Operand;
 use paper::Limit;
@@ -13,29 +15,51 @@ ghost use mir.Val.{Fits};
 ghost use mir.Syntax.{w64};
 ghost use Rattle.paper.specs.Bytes.{Bytes};
 ghost use Rattle.paper.specs.Sizes.{stack-most};
-ghost use Rattle.paper.specs.Checking.{step-counts, shape};
+ghost use Rattle.paper.specs.Checking.{counted, step-counts, shape};
 ghost use Rattle.codes.specs.Meaning.{elm-of};
-ghost use Rattle.judging.specs.Tallies.{counts-in, counts-of, shape-in, no-steps, added, steps, none-yet, entries-after, tally-after, judgement-of};
+ghost use Rattle.codes.specs.Counting.{kind-of, elm-kind-of, Elm-counted};
+ghost use Rattle.judging.specs.Tallies.{
+  counts-in,
+  counts-of,
+  kind-in,
+  step-kind,
+  shape-in,
+  no-steps,
+  added,
+  steps,
+  none-yet,
+  entries-after,
+  tally-after,
+  judgement-of,
+};
 
 const STACK: u64 = Limit::STACK.most as u64;
+
+fn counts(loads: u64, others: u64, patterns: u64, tests: u64) -> Counts
+    ensures { λ r. ⌜ r ≡ counts-in (counted loads others patterns tests) ⌝ }
+{
+    Counts {
+        loads,
+        others,
+        patterns,
+        tests,
+    }
+}
 
 pub(crate) fn no_steps() -> Counts
     ensures { λ r. ⌜ r ≡ no-steps ⌝ }
 {
-    Counts {
-        loads: 0,
-        others: 0,
-    }
+    counts(0, 0, 0, 0)
 }
 
-// "A attribute loads and B other steps": a step is one or the other.
-pub(crate) fn one_step(loads: bool) -> Counts
-    ensures { λ r. ⌜ r ≡ counts-in (step-counts loads) ⌝ }
+// "A attribute loads and B other steps", and P codes with their tests: a step is one of these.
+pub(crate) fn one_step(kind: Kind) -> Counts
+    ensures { λ r. ⌜ r ≡ counts-in (step-counts (step-kind kind)) ⌝ }
 {
-    let n = loads as u64;
-    Counts {
-        loads: n,
-        others: 1 - n,
+    match kind {
+        Kind::Loading => counts(1, 0, 0, 0),
+        Kind::Testing(tests) => counts(0, 0, 1, tests),
+        Kind::Other => counts(0, 1, 0, 0),
     }
 }
 
@@ -46,27 +70,50 @@ pub(crate) fn together(x: Counts, y: Counts) -> Counts
     Counts {
         loads: x.loads + y.loads,
         others: x.others + y.others,
+        patterns: x.patterns + y.patterns,
+        tests: x.tests + y.tests,
     }
 }
 
-// Whether an elm loads an attribute, whatever string it was read from.
-fn loads(elm: Elm) -> bool
-    ensures { λ r. ⌜ ((string : Bytes) → r ≡ shape (elm-of string elm) .loads) ⌝ }
+// "With T tests in the code": what the step of a code other than F is counted as.
+pub(crate) fn conversion_kind(conversion: Conversion) -> Kind
+    ensures { λ r. ⌜ r ≡ kind-in (kind-of conversion) ⌝ }
+{
+    match conversion {
+        Conversion::Plain(_) => Kind::Other,
+        Conversion::Mask(_) => Kind::Other,
+        Conversion::Date {
+            digits: _,
+            separator: _,
+        } => Kind::Other,
+        Conversion::Patterns { start: _, tests } => Kind::Testing(tests),
+    }
+}
+
+fn operand_kind(operand: Operand) -> Kind
+    ensures { λ r. ⌜ r ≡ kind-in (elm-kind-of (Elm.Push operand)) ⌝ }
+{
+    match operand {
+        Operand::Attribute {
+            number: _,
+            repeat: _,
+        } => Kind::Loading,
+        Operand::Literal { start: _, len: _ } => Kind::Other,
+        Operand::Previous => Kind::Other,
+    }
+}
+
+// What the step of an elm is counted as.
+fn kind(elm: Elm) -> Kind
+    ensures { λ r. ⌜ r ≡ kind-in (elm-kind-of elm) ⌝ }
 {
     match elm {
-        Elm::Push(operand) => match operand {
-            Operand::Attribute {
-                number: _,
-                repeat: _,
-            } => true,
-            Operand::Literal { start: _, len: _ } => false,
-            Operand::Previous => false,
-        },
-        Elm::Binary(_) => false,
-        Elm::Substring => false,
-        Elm::Exchange => false,
-        Elm::Duplicate => false,
-        Elm::Convert(_) => false,
+        Elm::Push(operand) => operand_kind(operand),
+        Elm::Binary(_) => Kind::Other,
+        Elm::Substring => Kind::Other,
+        Elm::Exchange => Kind::Other,
+        Elm::Duplicate => Kind::Other,
+        Elm::Convert(conversion) => conversion_kind(conversion),
     }
 }
 
@@ -100,12 +147,14 @@ fn puts(elm: Elm) -> u64
 
 // The shape of an elm: a match of constants for each of its fields is compiled to a look-up, one match for all three to a jump.
 fn shape(elm: Elm) -> Shape
-    ensures { λ r. ⌜ ((string : Bytes) → r ≡ shape-in (shape (elm-of string elm))) ⌝ }
+    ensures { λ r. ⌜ ((string : Bytes) → Elm-counted string elm → r ≡ shape-in (shape (elm-of string elm))) ⌝ }
+    ensures { λ r. ⌜ (r .puts ≤ 2) × (r .kind ≡ kind-in (elm-kind-of elm)) ⌝ }
 {
+    let kind = kind(elm);
     Shape {
         takes: takes(elm),
         puts: puts(elm),
-        loads: loads(elm),
+        kind,
     }
 }
 
@@ -144,13 +193,14 @@ fn entries(shape: Shape, held: u64, faulty: bool) -> Entries
 
 // One elm more.
 pub(crate) fn tally_after(tally: Tally, elm: Elm) -> Tally
-    requires { ⌜ (tally .held ≤ stack-most) × Fits w64 (steps (tally .counts) + 1) ⌝ }
-    ensures { λ r. ⌜ ((string : Bytes) → r ≡ tally-after (elm-of string elm) tally) ⌝ }
+    requires { ⌜ (tally .held ≤ stack-most) × Fits w64 (steps (tally .counts) + steps (counts-in (step-counts (elm-kind-of elm)))) ⌝ }
+    ensures { λ r. ⌜ ((string : Bytes) → Elm-counted string elm → r ≡ tally-after (elm-of string elm) tally) ⌝ }
 {
     let shape = shape(elm);
     let entries = entries(shape, tally.held, tally.faulty);
     let so_far = tally.counts;
-    let counts = together(so_far, one_step(shape.loads));
+    let kind = shape.kind;
+    let counts = together(so_far, one_step(kind));
     Tally {
         held: entries.held,
         faulty: entries.faulty,

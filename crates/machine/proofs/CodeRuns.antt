@@ -10,29 +10,28 @@ use lib.ListN.{length}
 use lib.Dec.{leb, eqb}
 use borrow.Author.Tests.{le-leb, lt-leb, leb-true, leb-false}
 use Rattle.paper.specs.Bytes.{Bytes, if_then_else_, any}
-use Rattle.paper.specs.Sizes.{entry-most, is-mark}
+use Rattle.paper.specs.Sizes.{code-most, entry-most, is-mark}
 use Rattle.paper.specs.Refusals.{Res, given, refused, _>>=_, _>>_, over-budget}
 use Rattle.paper.specs.declared.Given.{Given}
 use Rattle.paper.specs.Answers.{refusal-in}
 use Rattle.paper.specs.Codes.{Conversion, Elm, Code}
 use Rattle.paper.specs.Grammar.{read}
-use Rattle.paper.specs.Checking.{all-stacked, lawful, in-grammar, judged}
-use Rattle.paper.specs.Steps.{Setting, done, stepped, onward, top-entry, conversion-gives, bytes-in, price, limited, conversion-step, code-run}
+use Rattle.paper.specs.Checking.{conversion-kind, all-stacked, lawful, in-grammar, judged}
+use Rattle.paper.specs.Steps.{Setting, done, stepped, onward, top-entry, conversion-gives, bytes-in, charged, price, limited, conversion-step, code-run}
 use Rattle.paper.specs.Converting.{within-budget}
 use Rattle.codes.specs.declared.Conversion.{Conversion as Converted}
 use Rattle.codes.specs.Meaning.{conversion-of}
+use Rattle.codes.specs.Counting.{kind-of}
 use Rattle.grammar.specs.declared.Head.{Head}
-use Rattle.readers.specs.Places.{byte-at}
-use Rattle.readers.specs.Reading as place
-use Rattle.grammar.specs.Heads.{whole, head, elms-from}
-use Rattle.grammar.proofs.HeadReads.{functioned, read-by, head-reads, marks-read}
+use Rattle.grammar.specs.Heads.{head, elms-from}
+use Rattle.grammar.proofs.HeadReads.{functioned, read-by, head-reads, head-single, marks-read}
 use Rattle.stack.specs.Slots.{element-slot, entry-at}
-use Rattle.giving.specs.Bounds.{Conversion-within}
+use Rattle.giving.specs.Bounds.{Conversion-within, charged-most}
+use Rattle.giving.proofs.Numbers.{charged-within}
 use Rattle.stack.specs.declared.Charge.{Charge}
 use Rattle.machine.specs.declared.Meter.{Meter}
 use Rattle.stack.specs.Charging.{taken-most, charge-of, charge-refusal, handed, taken-one}
 use Rattle.steps.specs.Stepping.{converted-on}
-use Rattle.paper.proofs.Predicates.{Reads}
 use Rattle.machine.specs.Runs.{metered, Counted, answered, stopped, read-run, Stacks, stacks, converting, judged-run, Judged-well, judged-well}
 use Rattle.stack.proofs.Charges.{Gave, gave-handed}
 use Rattle.machine.proofs.Within.{conversion-reads, read-has}
@@ -75,25 +74,28 @@ module _ (meter : Meter) (taken : ℕ) (counted : Counted meter) where
   unfolding within-budget converting handed refusal-in
   converting-refused work p e = rw (p, e)
 
--- an entry's bytes are within what a step may take
-pub entry-takes : {n : ℕ} → n ≤ entry-most → n ≤ taken-most
+-- what a code is charged is within what a step may take
+pub charge-takes : {n : ℕ} → n ≤ charged-most → n ≤ taken-most
 unfolding entry-most
-entry-takes h = omega arith
+charge-takes h = omega arith
 
 -- what the code gave on the element in its slot
-pub single-gave : {answer : Given} {work′ element : Bytes} (scratch : Bytes) (lens : List ℕ) (c : Conversion) (work : Bytes)
+pub single-gave : {answer : Given} {work′ element : Bytes} {taken : ℕ} (scratch : Bytes) (lens : List ℕ) (q : Converted) (c : Conversion) (work : Bytes)
     → element ≡ entry-at scratch lens element-slot → Gave (limited entry-most (conversion-gives c element)) answer work work′
-    → converting (taken-one scratch lens element-slot) (converted-on c scratch lens element-slot) ≡ converting (length element) (handed answer work′)
-single-gave scratch lens c work e g = rw (gave-handed _ work g, e)
+    → taken ≡ charged (kind-of q) 0 (length element)
+    → converting (charged (kind-of q) 0 (taken-one scratch lens element-slot)) (converted-on c scratch lens element-slot) ≡ converting taken (handed answer work′)
+single-gave scratch lens q c work e g t = rw (gave-handed _ work g, t, e)
 
 -- the paper's run of it
 single-run : (c : Setting) (k : Conversion)
-    → code-run entry-most c (Code.single k) ≡ converting (length (c .previous)) (limited entry-most (conversion-gives k (c .previous)))
+    → code-run entry-most c (Code.single k)
+    ≡ converting (charged (conversion-kind k) (length (c .item)) (length (c .previous))) (limited entry-most (conversion-gives k (c .previous)))
 unfolding code-run conversion-step converting stepped price bytes-in
 single-run c k = go (limited entry-most (conversion-gives k (c .previous)))
   where
     go : (x : Res Bytes)
-        → stepped (x >>= λ put. given (price false (c .item) (c .previous ∷ []) (put ∷ []), put)) done ≡ converting (length (c .previous)) x
+        → stepped (x >>= λ put. given (price (conversion-kind k) (c .item) (c .previous ∷ []) (put ∷ []), put)) done
+        ≡ converting (charged (conversion-kind k) (length (c .item)) (length (c .previous))) x
     go (refused n) = refl
     go (given bs) = rw (add-zero, add-zero)
 
@@ -132,29 +134,15 @@ module _ (s : Bytes) (well : Judged-well (judged s)) where
   unfolding judging
   bad-code h = well-given well (judged-head s well ∙ ap (λ (x : Option Head). judging (read-by s x)) h)
 
-  -- any other: its run is one step
-  pub single-code : {q : Converted} → head s ≡ some (Head.Single q)
-      → (c : Setting) → judged-run c (judged s) ≡ converting (length (c .previous)) (limited entry-most (conversion-gives (conversion-of s q) (c .previous)))
-  unfolding judging lawful judged-run
-  single-code {q} h c = rw (judged-head s well, h) (single-run c (conversion-of s q))
+  -- any other: its run is one step, and its numbers are within what the grammar keeps them
+  module _ (short : length s ≤ code-most) {q : Converted} (h : head s ≡ some (Head.Single q)) where
+    pub single-within : Conversion-within s q
+    single-within = read-has (conversion-reads s short 0) (head-single s h)
 
--- and its numbers are within what the grammar keeps them
-whole-within : {q : Converted} (s : Bytes) (n : ℕ) {o : Option (Converted × ℕ)} → Reads (Conversion-within s) o → whole n o ≡ some (Head.Single q) → Conversion-within s q
-whole-within {q} s n {o} p e = go o p e
-  where
-    go : (o : Option (Converted × ℕ)) → Reads (Conversion-within s) o → whole n o ≡ some (Head.Single q) → Conversion-within s q
-    go none p e = let z : _≡_ {A = ℕ} 0 1 = cc in absurd (omega arith)
-    go (some r) p e = pick (eqb (r .1) n) e
-      where
-        pick : (t : Bool) → (if t then some (Head.Single (r .0)) else none) ≡ some (Head.Single q) → Conversion-within s q
-        pick true e = let same : r .0 ≡ q = cc in rw same at (read-has p refl)
-        pick false e = let z : _≡_ {A = ℕ} 0 1 = cc in absurd (omega arith)
-
-pub single-within : {q : Converted} (s : Bytes) → head s ≡ some (Head.Single q) → Conversion-within s q
-unfolding head
-single-within {q} s h = go (eqb 70 (byte-at s 0)) (eqb 59 (byte-at s 1)) h
-  where
-    go : (t u : Bool) → (if t then (if u then some (Head.Function 2) else none) else whole (length s) (place.conversion s 0)) ≡ some (Head.Single q) → Conversion-within s q
-    go true true e = let z : _≡_ {A = ℕ} 0 1 = cc in absurd (omega arith)
-    go true false e = let z : _≡_ {A = ℕ} 0 1 = cc in absurd (omega arith)
-    go false u e = whole-within s (length s) (conversion-reads s 0) e
+    pub single-code : (c : Setting)
+        → judged-run c (judged s) ≡ converting (charged (kind-of q) 0 (length (c .previous))) (limited entry-most (conversion-gives (conversion-of s q) (c .previous)))
+    unfolding judging lawful judged-run
+    single-code c =
+        rw (judged-head s well, h)
+        (single-run c (conversion-of s q)
+        ∙ ap (λ (n : ℕ). converting n (limited entry-most (conversion-gives (conversion-of s q) (c .previous)))) (charged-within _ _ single-within))

@@ -4,9 +4,9 @@ use mathlib.Core.Bool.{Bool, true, false}
 use mathlib.Core.List.{List, [], _∷_}
 use Prim.Native.Nat.{ℕ, suc, _+_, _-_, _≤_}
 use native.Mathlib.Omega.{arith}
-use lib.ListN.{length, take, drop}
+use lib.ListN.{length, take, drop, length-take, length-drop}
 use lib.Dec.{leb, eqb}
-use borrow.Author.Tests.{eqb-true, eqb-false}
+use borrow.Author.Tests.{eqb-true, eqb-false, leb-true}
 use Rattle.paper.specs.Bytes.{Bytes, if_then_else_}
 use Rattle.paper.specs.Sizes.{entry-most, code-most}
 use Rattle.paper.specs.Refusals.{Res, given, refused}
@@ -92,13 +92,14 @@ module _ (item string : Bytes) (place : Position) (meter : Meter) (scratch₀ : 
     pub number : ℕ
     pub lent : Lent item scratch lens work
     pub within-string : at ≤ length string
+    pub short : length string ≤ code-most
     pub counted : steps ≤ budget
     pub ready : Accepted (left-at number at)
     pub same : whole-run ≡ within-budget budget steps (checked-run item place (left-at number at) (entry-at scratch lens element-slot))
 
-  pub part-first : {work : Bytes} → Lent item scratch₀ lens₀ work → Counted meter → Accepted (judged-all 1 (split 253 string))
+  pub part-first : {work : Bytes} → Lent item scratch₀ lens₀ work → Counted meter → Accepted (judged-all 1 (split 253 string)) → length string ≤ code-most
       → Part 0 (meter .steps) scratch₀ lens₀ work
-  part-first lent h ready = record { number = 1; lent = lent; within-string = omega arith; counted = h; ready = ready; same = refl }
+  part-first lent h ready short = record { number = 1; lent = lent; within-string = omega arith; short = short; counted = h; ready = ready; same = refl }
 
   module _ {at steps : ℕ} {scratch : Bytes} {lens : List ℕ} {work : Bytes} (part : Part at steps scratch lens work) {end : ℕ}
       (e : end ≡ code-end (drop at string) at) where
@@ -110,6 +111,9 @@ module _ (item string : Bytes) (place : Position) (meter : Meter) (scratch₀ : 
 
     pub part-ends : (at ≤ end) × (end ≤ length string)
     part-ends = end-within string at (part .within-string) e
+
+    pub part-short : length this-code ≤ code-most
+    part-short = omega (arith, length-take (end - at) (drop at string), length-drop at string, part .short)
 
     -- the code there, and the codes after it
     module _ (tail : List Bytes) (cut : split 253 (drop at string) ≡ this-code ∷ tail) where
@@ -185,6 +189,7 @@ module _ (item string : Bytes) (place : Position) (meter : Meter) (scratch₀ : 
               number = suc (part .number);
               lent = record { record-fits = part .lent .record-fits; slotted = runs .slotted; work-fits = omega (arith, part .lent .work-fits) };
               within-string = omega (arith, part-ends);
+              short = part .short;
               counted = goes-within behind cut-there runs q;
               ready = split-well _ cut .1;
               same = goes _ cut runs q;
@@ -196,6 +201,15 @@ pub no-codes : {scratch : Bytes} {lens : List ℕ} (item string : Bytes) (place 
 unfolding within-budget check code-texts judged-all checked-run codes-run ran-of
 no-codes item [] place meter slotted h = record { answers = refl; element = refl; slotted = slotted }
 no-codes item (b ∷ bs) place meter slotted h = absurd (omega arith)
+
+-- what was accepted is not over-long
+pub checked-short : (string : Bytes) → Accepted (check string) → length string ≤ code-most
+unfolding check
+checked-short string h = go (leb (length string) code-most) refl h
+  where
+    go : (t : Bool) → leb (length string) code-most ≡ t → Accepted (if t then judged-all 1 (code-texts string) else faulty 5 0) → length string ≤ code-most
+    go true e h = leb-true (length string) code-most e
+    go false e h = absurd (not-faulty h refl)
 
 -- any other has the parts between its marks
 pub checked-parts : (string : Bytes) → Accepted (check string) → (length string ≡ 0 → ⊥) → check string ≡ judged-all 1 (split 253 string)

@@ -3,20 +3,21 @@ use mathlib.Core.Path.{_≡_, refl, ap, _∙_}
 use mathlib.Core.Bool.{Bool, true, false}
 use mathlib.Core.List.{[], _∷_}
 use mathlib.Core.Option.{Option, none, some}
-use Prim.Native.Nat.{ℕ, _-_}
+use Prim.Native.Nat.{ℕ, _-_, _≤_}
 use native.Mathlib.Omega.{arith}
 use lib.ListN.{length}
 use lib.Seq.{take-all}
 use lib.Dec.{eqb}
 use borrow.Author.Tests.{eq-eqb, ne-eqb, eqb-true}
 use Rattle.paper.specs.Bytes.{Bytes, if_then_else_}
-use Rattle.paper.specs.Sizes.{entry-most}
+use Rattle.paper.specs.Sizes.{code-most, entry-most}
 use Rattle.paper.specs.Refusals.{Res, given, refused}
 use Rattle.paper.specs.Records.{split}
 use Rattle.paper.specs.Checking.{judged, judged-all, Checked, accepted, in-turn}
-use Rattle.paper.specs.Steps.{Run, onward, conversion-gives, limited, codes-run}
+use Rattle.paper.specs.Steps.{Run, onward, conversion-gives, charged, limited, codes-run}
 use Rattle.codes.specs.declared.Conversion.{Conversion}
 use Rattle.codes.specs.Meaning.{conversion-of}
+use Rattle.codes.specs.Counting.{kind-of}
 use Rattle.grammar.specs.declared.Head.{Head}
 use Rattle.grammar.specs.Heads.{head, code-end}
 use Rattle.grammar.proofs.Cuts.{split-last}
@@ -55,7 +56,7 @@ unfolding onward converting checked-run codes-run
 last-run item place taken (refused n) = refl
 last-run item place taken (given bs) = refl
 
-module _ {c : Conversion} (string : Bytes) (ready : Accepted (judged-all 1 (split 253 string))) (e : Plan.Single c ≡ plan-of string) where
+module _ {c : Conversion} (string : Bytes) (ready : Accepted (judged-all 1 (split 253 string))) (short : length string ≤ code-most) (e : Plan.Single c ≡ plan-of string) where
   -- no mark parts it
   alone : (head string ≡ some (Head.Single c)) × (code-end string 0 ≡ length string)
   unfolding plan-of planned
@@ -84,12 +85,12 @@ module _ {c : Conversion} (string : Bytes) (ready : Accepted (judged-all 1 (spli
   well = accepted-parts 1 (judged string) (accepted []) ready-one .0
 
   pub plan-within : Conversion-within string c
-  plan-within = single-within string (alone .0)
+  plan-within = single-within string well short (alone .0)
 
   pub plan-run : (item : Bytes) (place : Position) (text : Bytes)
-      → checked-run item place (judged-all 1 (split 253 string)) text ≡ converting (length text) (limited entry-most (conversion-gives (conversion-of string c) text))
+      → checked-run item place (judged-all 1 (split 253 string)) text ≡ converting (charged (kind-of c) 0 (length text)) (limited entry-most (conversion-gives (conversion-of string c) text))
   plan-run item place text =
       ap (λ (x : Checked). checked-run item place x text) one-code
       ∙ first-run item place 1 (judged string) (accepted []) text ready-one
-      ∙ ap (λ (r : Run Bytes). onward r (λ (q : Bytes). checked-run item place (accepted []) q)) (single-code string well (alone .0) (setting item place text))
-      ∙ last-run item place (length text) (limited entry-most (conversion-gives (conversion-of string c) text))
+      ∙ ap (λ (r : Run Bytes). onward r (λ (q : Bytes). checked-run item place (accepted []) q)) (single-code string well short (alone .0) (setting item place text))
+      ∙ last-run item place (charged (kind-of c) 0 (length text)) (limited entry-most (conversion-gives (conversion-of string c) text))

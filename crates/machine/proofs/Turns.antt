@@ -9,7 +9,7 @@ use lib.ListN.{length}
 use lib.Dec.{leb, eqb}
 use borrow.Author.Tests.{le-leb, lt-leb, leb-true, leb-false, eq-eqb, ne-eqb, eqb-true, eqb-false}
 use Rattle.paper.specs.Bytes.{Bytes, if_then_else_}
-use Rattle.paper.specs.Sizes.{entry-most, stack-most}
+use Rattle.paper.specs.Sizes.{code-most, entry-most, stack-most}
 use Rattle.paper.specs.Refusals.{Res, given, refused, _>>=_, _>>_, refuse_unless_, over-budget}
 use Rattle.paper.specs.Codes.{Elm}
 use Rattle.paper.specs.Checking.{shape, stacked, all-stacked, Room}
@@ -216,6 +216,7 @@ module _ (item code : Bytes) (first : ℕ) (position : Position) (meter : Meter)
   pub record Turn (at entries steps : ℕ) (scratch : Bytes) (lens : List ℕ) (work : Bytes) : Type 0 where
     pub lent : Lent item scratch lens work
     pub within-code : at ≤ length code
+    pub short : length code ≤ code-most
     pub element : entry-at scratch lens element-slot ≡ entry-at scratch₀ lens₀ element-slot
     pub few : entries ≤ stack-most
     pub counted : steps ≤ budget
@@ -223,10 +224,10 @@ module _ (item code : Bytes) (first : ℕ) (position : Position) (meter : Meter)
     pub same : whole-run ≡ within-budget budget steps (read-run there (elms-from code at) (stack-of scratch lens entries))
 
   pub turn-first : {work : Bytes} → Lent item scratch₀ lens₀ work → first ≤ length code → Counted meter → Stacks (elms-from code first) 0
-      → Turn first 0 (meter .steps) scratch₀ lens₀ work
+      → length code ≤ code-most → Turn first 0 (meter .steps) scratch₀ lens₀ work
   unfolding stack-of
-  turn-first lent h l ready =
-      record { lent = lent; within-code = h; element = refl; few = omega arith; counted = l; ready = ready; same = refl }
+  turn-first lent h l ready short =
+      record { lent = lent; within-code = h; short = short; element = refl; few = omega arith; counted = l; ready = ready; same = refl }
 
   module _ {at entries steps : ℕ} {scratch : Bytes} {lens : List ℕ} {work : Bytes} (turn : Turn at entries steps scratch lens work) where
     -- an elm stands there
@@ -244,7 +245,7 @@ module _ (item code : Bytes) (first : ℕ) (position : Position) (meter : Meter)
       turn-room = found .0
 
       pub turn-elm : Elm-within code e
-      turn-elm = read-has (elm-reads code at) f
+      turn-elm = read-has (elm-reads code (turn .short) at) f
 
       pub turn-place : (at < n) × (n ≤ length code)
       turn-place = elm-within code at (turn .within-code) e n f
@@ -301,6 +302,7 @@ module _ (item code : Bytes) (first : ℕ) (position : Position) (meter : Meter)
               record {
                 lent = record { record-fits = turn .lent .record-fits; slotted = settled .slotted; work-fits = omega (arith, turn .lent .work-fits) };
                 within-code = omega (arith, turn-place);
+                short = turn .short;
                 element = settled .element ∙ turn .element;
                 few = turn-held .1;
                 counted = turn-counted;

@@ -9,69 +9,27 @@ use lib.ListN.{length, drop, length-drop}
 use lib.Dec.{leb, eqb, lit≤}
 use borrow.Author.Tests.{leb-true}
 use Rattle.paper.specs.Bytes.{Bytes, if_then_else_, within, digit-value}
-use Rattle.paper.specs.Grammar.{is-separator}
+use Rattle.paper.specs.Sizes.{code-most}
+use Rattle.paper.specs.Codes.{Pattern}
+use Rattle.paper.specs.Grammar.{is-separator, pattern-list}
 use Rattle.paper.proofs.Truths.{both}
 use Rattle.paper.proofs.Predicates.{Reads, reads, reads-not, reads-either, All, none-of, and-all}
 use Rattle.codes.specs.declared.Plain.{Plain}
 use Rattle.codes.specs.declared.Fill.{Fill}
 use Rattle.codes.specs.Meaning.{fill-of, mask-of}
+use Rattle.codes.specs.Counting.{patterns-counted}
 use Rattle.masks.specs.Bounds.{field-width}
-use Rattle.readers.specs.Places.{Placed, byte-at, after, follow, follow-or, only-if, choose-or, this, flag, digit, num, numeral}
+use Rattle.readers.specs.Places.{Placed, byte-at, after, follow, gives, this, flag, num, numeral, closing, enclosed, quoted}
+use Rattle.codes.specs.declared.Operand.{Operand as Pushed}
+use Rattle.codes.specs.declared.Elm.{Elm as Coded}
 use Rattle.readers.specs.Reading as place
-use Rattle.readers.proofs.Taken.{digit-small}
+use Rattle.readers.proofs.Ever.{Ever, follow-then, follow-any, or-then, or-any, only-then, choose-reads, digit-reads}
+pub use Rattle.readers.proofs.Ever.{read-has}
 use Rattle.grammar.specs.Reading as elms
-use Rattle.giving.specs.Bounds.{Conversion-within, plain-within, mask-within, date-within}
+use Rattle.giving.specs.Bounds.{Conversion-within, plain-within, mask-within, date-within, patterns-within}
 use Rattle.steps.specs.Bounds.{attribute-within, literal-within, previous-within, multiply-within, divide-within, rest-within, add-within, subtract-within, arithmetic-within, concatenate-within, relate-within, Elm-within, push-within, binary-within, substring-within, exchange-within, duplicate-within, convert-within}
 
-pub read-has : {A : Type 0} {P : A → Type 0} {o : Option (A × ℕ)} {a : A} {n : ℕ} → Reads P o → o ≡ some (a, n) → P a
-read-has {A} {P} {o} {a} {n} p e = has (rw e at p)
-  where
-    has : Reads P (some (a, n)) → P a
-    has (reads q) = q
-
--- wherever it reads
-abbrev Ever : {A : Type 0} → (A → Type 0) → Bytes → Placed A → Type 0
-Ever P s r = (n : ℕ) → Reads P (r s n)
-
-follow-then : {A B : Type 0} {P : A → Type 0} {Q : B → Type 0} {s : Bytes} {o : Option (A × ℕ)} (k : A → Placed B) → Reads P o
-    → ((a : A) → P a → Ever Q s (k a)) → Reads Q (follow o k s)
-follow-then k (reads {r = r} p) f = f (r .0) p (r .1)
-follow-then k reads-not f = reads-not
-
-follow-any : {A B : Type 0} {Q : B → Type 0} {s : Bytes} (o : Option (A × ℕ)) (k : A → Placed B) → ((a : A) → Ever Q s (k a))
-    → Reads Q (follow o k s)
-follow-any (some r) k f = f (r .0) (r .1)
-follow-any none k f = reads-not
-
-or-then : {A B : Type 0} {P : A → Type 0} {Q : B → Type 0} {s : Bytes} {o : Option (A × ℕ)} (k : A → Placed B) (x : Option (B × ℕ)) → Reads P o
-    → ((a : A) → P a → Ever Q s (k a)) → Reads Q x → Reads Q (follow-or o k s x)
-or-then k x (reads {r = r} p) f q = f (r .0) p (r .1)
-or-then k x reads-not f q = q
-
-or-any : {A B : Type 0} {Q : B → Type 0} {s : Bytes} (o : Option (A × ℕ)) (k : A → Placed B) (x : Option (B × ℕ))
-    → ((a : A) → Ever Q s (k a)) → Reads Q x → Reads Q (follow-or o k s x)
-or-any (some r) k x f q = f (r .0) (r .1)
-or-any none k x f q = q
-
-only-then : {A : Type 0} {Q : A → Type 0} {s : Bytes} (t : Bool) (k : Unit {0} → Placed A) (n : ℕ) → (t ≡ true → Ever Q s (k tt))
-    → Reads Q (follow (only-if t s n) k s)
-only-then true k n f = f refl n
-only-then false k n f = reads-not
-
-choose-reads : {A : Type 0} {P : A → Type 0} {s : Bytes} {cs : List (ℕ × Placed A)} (other : Placed A) → All (λ c. Ever P s (c .1)) cs
-    → Ever P s other → Ever P s (choose-or cs other)
-unfolding choose-or
-choose-reads other none-of q n = q n
-choose-reads {A} {P} {s} other (and-all {a = c} p ps) q n = reads-either (eqb (c .0) (byte-at s n)) (p (after s n)) (choose-reads other ps q n)
-
-digit-reads : (s : Bytes) → Ever (λ d. d ≤ 9) s digit
-digit-reads s n = small (digit s n) refl
-  where
-    small : (o : Option (ℕ × ℕ)) → digit s n ≡ o → Reads (λ d. d ≤ 9) o
-    small none e = reads-not
-    small (some r) e = reads (digit-small s n (r .0) (r .1) e)
-
-module _ (s : Bytes) where
+module _ (s : Bytes) (short : length s ≤ code-most) where
   -- `{n{m}}`
   abbrev Digits : ℕ × ℕ → Type 0
   Digits d = (d .0 ≤ 9) × (d .1 ≤ 9)
@@ -140,6 +98,15 @@ module _ (s : Bytes) where
       (and-all (mask-reads false) none-of)))))
       (λ n. reads-not)
 
+  -- a P code's patterns
+  patterns-read : Ever (Conversion-within s) s place.pattern-code
+  unfolding place.pattern-code
+  patterns-read n = placed (pattern-list (drop n s)) refl
+    where
+      placed : (o : Option (List Pattern × Bytes)) → pattern-list (drop n s) ≡ o → Reads (Conversion-within s) (place.patterned s n o)
+      placed none e = reads-not
+      placed (some r) e = reads (patterns-within (patterns-counted e refl) short)
+
   pub conversion-reads : Ever (Conversion-within s) s place.conversion
   unfolding place.conversion
   conversion-reads =
@@ -148,25 +115,27 @@ module _ (s : Bytes) where
       (and-all (plain-reads place.extract-code)
       (and-all (plain-reads place.length-code)
       (and-all masking-reads
-      (and-all dates-read none-of)))))
+      (and-all dates-read
+      (and-all patterns-read none-of))))))
       (λ n. reads-not)
 
   -- a quote closes at a byte from here on
-  closes : (q : ℕ) (bs : Bytes) (at close : ℕ) → elms.closing q bs at ≡ some close → (at ≤ close) × (close < at + length bs)
-  unfolding elms.closing
+  closes : (q : ℕ) (bs : Bytes) (at close : ℕ) → closing q bs at ≡ some close → (at ≤ close) × (close < at + length bs)
+  unfolding closing
   closes q [] at close e = let z : _≡_ {A = ℕ} 0 1 = cc in absurd (omega arith)
   closes q (b ∷ bs) at close e = here (eqb b q) e (closes q bs (suc at) close)
     where
-      here : (t : Bool) → (if t then some at else elms.closing q bs (suc at)) ≡ some close
-          → (elms.closing q bs (suc at) ≡ some close → (suc at ≤ close) × (close < suc at + length bs)) → (at ≤ close) × (close < at + length (b ∷ bs))
+      here : (t : Bool) → (if t then some at else closing q bs (suc at)) ≡ some close
+          → (closing q bs (suc at) ≡ some close → (suc at ≤ close) × (close < suc at + length bs)) → (at ≤ close) × (close < at + length (b ∷ bs))
       here true e again = let same : at ≡ close = cc in omega arith
       here false e again = let h = again e in omega arith
 
   literal-reads : (q : ℕ) → Ever (Elm-within s) s (elms.literal-elm q)
-  unfolding elms.literal-elm
-  literal-reads q n = placed (elms.closing q (drop n s) n) refl
+  unfolding elms.literal-elm quoted
+  literal-reads q n = placed (closing q (drop n s) n) refl
     where
-      placed : (o : Option ℕ) → elms.closing q (drop n s) n ≡ o → Reads (Elm-within s) (elms.placed-literal n o)
+      placed : (o : Option ℕ) → closing q (drop n s) n ≡ o
+          → Reads (Elm-within s) (follow (enclosed n o) (λ len. gives (Coded.Push (Pushed.Literal n len))) s)
       placed none e = reads-not
       placed (some close) e =
           let h = closes q (drop n s) n close e in

@@ -9,10 +9,11 @@ use Rattle.paper.specs.Sizes.{entry-most, stack-most}
 use Rattle.paper.specs.Refusals.{Res, given, refused, not-in-grammar}
 use Rattle.paper.specs.Codes.{Elm, Code}
 use Rattle.paper.specs.Checking.{all-stacked, Checked, accepted, faulty}
-use Rattle.paper.specs.Steps.{Setting, Run, done, stop, step, onward, top-entry, elms-run, code-run, codes-run}
+use Rattle.paper.specs.Steps.{Setting, Run, done, stop, step, onward, charged, top-entry, elms-run, code-run, codes-run}
 use Rattle.paper.specs.Converting.{Ending, Outcome, within-budget}
 use Rattle.codes.specs.declared.Conversion.{Conversion}
 use Rattle.codes.specs.Meaning.{conversion-of}
+use Rattle.codes.specs.Counting.{kind-of}
 use Rattle.grammar.specs.Heads.{elms-from}
 use Rattle.stack.specs.Slots.{entry-at, stack-of, element-slot, Slotted}
 use Rattle.stack.specs.Charging.{taken-one}
@@ -105,7 +106,7 @@ converting taken (given bs) = step (1 + taken + length bs) (done bs)
 abbrev pub single-outcome : Bytes → Conversion → Meter → Bytes → List ℕ → Outcome
 single-outcome code conversion meter scratch lens =
     metered meter
-    (converting (taken-one scratch lens element-slot) (converted-on (conversion-of code conversion) scratch lens element-slot))
+    (converting (charged (kind-of conversion) 0 (taken-one scratch lens element-slot)) (converted-on (conversion-of code conversion) scratch lens element-slot))
 
 -- the code that was judged, run; a bad one refuses
 unfoldable pub judged-run : Setting → Res Code → Run Bytes

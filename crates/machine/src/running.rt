@@ -17,7 +17,7 @@ use steps::stepping;
 ghost use mathlib.Core.Path.{_≡_};
 ghost use Prim.Native.Nat.{_-_, _≤_};
 ghost use lib.ListN.{length};
-ghost use Rattle.paper.specs.Sizes.{entry-most, stack-most, value-mark};
+ghost use Rattle.paper.specs.Sizes.{code-most, entry-most, stack-most, value-mark};
 ghost use Rattle.paper.specs.Refusals.{given};
 ghost use Rattle.paper.specs.Answers.{length-in};
 ghost use Rattle.paper.specs.Records.{split};
@@ -65,7 +65,8 @@ fn run_elms<'a>(
     lens: &mut [usize],
     work: &mut [u8],
 ) -> Stretch
-    requires { ⌜ Lent (now item) (now scratch) (now lens) (now work) × (first ≤ length (now code)) × Counted meter × Stacks (elms-from (now code) first) 0 ⌝ }
+    requires { ⌜ Lent (now item) (now scratch) (now lens) (now work) × (first ≤ length (now code)) × Counted meter × Stacks (elms-from (now code) first) 0
+        × (length (now code) ≤ code-most) ⌝ }
     ensures { λ r. ⌜ Stretches (elms-outcome (now (item .entry)) (now (code .entry)) first place meter (now (scratch .entry)) (now (lens .entry)))
         r (now (scratch .exit)) (now (lens .exit)) ⌝ }
 {
@@ -114,7 +115,8 @@ fn function<'a>(
     lens: &mut [usize],
     work: &mut [u8],
 ) -> Ran
-    requires { ⌜ Lent (now item) (now scratch) (now lens) (now work) × (first ≤ length (now code)) × Counted meter × Stacks (elms-from (now code) first) 0 ⌝ }
+    requires { ⌜ Lent (now item) (now scratch) (now lens) (now work) × (first ≤ length (now code)) × Counted meter × Stacks (elms-from (now code) first) 0
+        × (length (now code) ≤ code-most) ⌝ }
     ensures { λ r. ⌜ Runs (function-outcome (now (item .entry)) (now (code .entry)) first place meter (now (scratch .entry)) (now (lens .entry)))
         r (now (scratch .exit)) (now (lens .exit)) ⌝ }
 {
@@ -184,7 +186,7 @@ fn single(
         r (now (scratch .exit)) (now (lens .exit)) ⌝ }
 {
     let element = slots::entry(&*scratch, &*lens, slots::ELEMENT);
-    let taken = element.len() as u64;
+    let taken = giving::charged(conversion, element.len() as u64);
     let answer = giving::give(conversion, code, element, work);
     charge_code(answer, taken, meter, &*work, scratch, lens)
 }
@@ -199,7 +201,7 @@ fn run_code<'a>(
     lens: &mut [usize],
     work: &mut [u8],
 ) -> Ran
-    requires { ⌜ Lent (now item) (now scratch) (now lens) (now work) × Counted meter × Judged-well (judged (now code)) ⌝ }
+    requires { ⌜ Lent (now item) (now scratch) (now lens) (now work) × Counted meter × Judged-well (judged (now code)) × (length (now code) ≤ code-most) ⌝ }
     ensures { λ r. ⌜ Runs (code-outcome (now (item .entry)) (judged (now (code .entry))) place meter (now (scratch .entry)) (now (lens .entry)))
         r (now (scratch .exit)) (now (lens .exit)) ⌝ }
 {
@@ -244,7 +246,8 @@ fn run_parts<'a>(
     lens: &mut [usize],
     work: &mut [u8],
 ) -> Ran
-    requires { ⌜ Lent (now item) (now scratch) (now lens) (now work) × Counted meter × Accepted (judged-all 1 (split value-mark (now string))) ⌝ }
+    requires { ⌜ Lent (now item) (now scratch) (now lens) (now work) × Counted meter × Accepted (judged-all 1 (split value-mark (now string)))
+        × (length (now string) ≤ code-most) ⌝ }
     ensures { λ r. ⌜ Runs (codes-outcome (now (item .entry)) (judged-all 1 (split value-mark (now (string .entry)))) place meter
         (now (scratch .entry)) (now (lens .entry))) r (now (scratch .exit)) (now (lens .exit)) ⌝ }
 {
@@ -281,7 +284,7 @@ fn run_planned<'a>(
     work: &mut [u8],
 ) -> Ran
     requires { ⌜ Lent (now item) (now scratch) (now lens) (now work) × Counted meter × (plan ≡ plan-of (now string)) ⌝ }
-    requires { ⌜ Accepted (judged-all 1 (split value-mark (now string))) ⌝ }
+    requires { ⌜ Accepted (judged-all 1 (split value-mark (now string))) × (length (now string) ≤ code-most) ⌝ }
     ensures { λ r. ⌜ Runs (codes-outcome (now (item .entry)) (judged-all 1 (split value-mark (now (string .entry)))) place meter
         (now (scratch .entry)) (now (lens .entry))) r (now (scratch .exit)) (now (lens .exit)) ⌝ }
 {

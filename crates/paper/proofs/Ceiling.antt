@@ -1,6 +1,6 @@
 -- Demand 3, the ceiling: the defined count is at most the number of elements times what the string's steps can cost, for any limit `most` on
--- an entry, and so for converting at its own; a run is bounded by data, a case for each of its forms. That ceiling is document 01's,
--- m x (A x (1,025 + R) + B x 4,097). Assumes nothing.
+-- an entry, and so for converting at its own; a run is bounded by data, a case for each of its forms. That ceiling is document 01's with a P code's
+-- own place in it, m x (A x (1,025 + R) + B x 4,097 + (P + T) x 1,025). Assumes nothing.
 use Prim.Native.Nat.{ℕ, _+_, _*_, _≤_}
 use mathlib.Core.Path.{_≡_, refl, ap}
 use mathlib.Core.Bool.{Bool, true, false}
@@ -13,8 +13,10 @@ use borrow.Author.Tests.{leb-true}
 use Rattle.paper.specs.Bytes.{Bytes, if_then_else_}
 use Rattle.paper.specs.Sizes.{entry-most, scratch-least}
 use Rattle.paper.specs.Refusals.{Res, given, refuse_unless_, over-long-entry, short-scratch}
-use Rattle.paper.specs.Codes.{Conversion, Elm, Code}
+use Rattle.paper.specs.Codes.{Pattern, Conversion, Elm, Code, Kind}
+use Rattle.paper.specs.Patterns.{some-passes, patterns-give, tests-in}
 use Rattle.paper.specs.Checking.{
+  conversion-kind,
   shape,
   Counts,
   together,
@@ -22,13 +24,12 @@ use Rattle.paper.specs.Checking.{
   elms-counts,
   code-counts,
   codes-counts,
-  attribute-loads,
-  other-steps,
   Checked,
   accepted,
   faulty,
   check,
   report,
+  no-steps,
   codes-of,
   checked-codes,
 }
@@ -40,6 +41,9 @@ use Rattle.paper.specs.Steps.{
   onward,
   stepped,
   Setting,
+  bytes-in,
+  charged,
+  price,
   step-ceiling,
   top-entry,
   conversion-step,
@@ -70,7 +74,7 @@ use Rattle.paper.specs.Converting.{
   counted-ceiling,
 }
 use Rattle.paper.proofs.Predicates.{Holds, holds, refuses, holds-then, holds-after, holds-next, All, none-of, and-all}
-use Rattle.paper.proofs.Entries.{Fit, limited-fits, steps-within, price-capped}
+use Rattle.paper.proofs.Entries.{Fit, limited-fits, steps-within, few-converted, price-capped}
 use Rattle.paper.proofs.Budget.{budgeted-at-most}
 
 -- A run that costs at most n and, where it is done, answers with P.
@@ -123,18 +127,18 @@ module _ (most : ℕ) (item : Bytes) where
   unfolding elms-run elms-ceiling
   elms-bounded v s e [] stack fits = ends fits
   elms-bounded v s e (m ∷ es) stack fits =
-      bounded-stepped (step-ceiling most (length item) (shape m .loads)) (elms-ceiling most (length item) es) _
+      bounded-stepped (step-ceiling most (length item) (shape m .kind)) (elms-ceiling most (length item) es) _
       (steps-within most (seen v s e) m stack fits)
       (λ x p. (p .capped, elms-bounded v s e es (x .1) (p .fit)))
 
   conversion-within : (v s : ℕ) (k : Conversion) (e : Bytes) → Fit most e
-      → Holds (λ x. (x .0 ≤ step-ceiling most (length item) false) × Fit most (x .1))
+      → Holds (λ x. (x .0 ≤ step-ceiling most (length item) (conversion-kind k)) × Fit most (x .1))
       (conversion-step most (seen v s e) k)
   unfolding conversion-step
   conversion-within v s k e fit =
       holds-then (limited-fits most _)
       (λ put fit′. holds
-      (price-capped most item false 1 1 (e ∷ []) (put ∷ []) (and-all fit none-of) (lit≤ tt) refl (and-all fit′ none-of) (lit≤ tt), fit′))
+      (price-capped most item (conversion-kind k) 1 1 (e ∷ []) (put ∷ []) (and-all fit none-of) (lit≤ tt) refl (and-all fit′ none-of) (few-converted most k), fit′))
 
   -- One code of an element within the limit.
   code-bounded : (v s : ℕ) (c : Code) (e : Bytes) → Fit most e
@@ -142,7 +146,7 @@ module _ (most : ℕ) (item : Bytes) where
   unfolding code-run code-ceiling
   code-bounded v s (Code.function es) e fit = wider (omega arith) (bounded-onward 0 (elms-bounded v s e es [] none-of) top-bounded)
   code-bounded v s (Code.single k) e fit =
-      wider (omega arith) (bounded-stepped (step-ceiling most (length item) false) 0 done (conversion-within v s k e fit) (λ x p. (p .0, ends (p .1))))
+      wider (omega arith) (bounded-stepped (step-ceiling most (length item) (conversion-kind k)) 0 done (conversion-within v s k e fit) (λ x p. (p .0, ends (p .1))))
 
   codes-bounded : (v s : ℕ) (cs : List Code) (e : Bytes) → Fit most e
       → Bounded (Fit most) (codes-ceiling most (length item) cs) (codes-run most item v s cs e)
@@ -204,48 +208,69 @@ pub steps-within-ceiling : (item string : Bytes) (a v s budget room scratch : �
 steps-within-ceiling item string a v s budget room scratch =
     le-trans (budgeted-at-most item string a v s budget room scratch) (count-within-ceiling item string a v s room scratch)
 
--- The sum over steps by their counts: "A x (1,025 + R) + B x 4,097", for any limit on an entry.
+-- The sum over steps by their counts: "A x (1,025 + R) + B x 4,097" and, of P codes, "T x 1,025 + 1,025" each, for any limit on an entry.
 module _ (most size : ℕ) where
   unfoldable pub counted-steps : Counts → ℕ
-  counted-steps k = k .loads * (1 + most + size) + k .others * (1 + 4 * most)
+  counted-steps k = k .loads * (1 + most + size) + k .others * (1 + 4 * most) + (k .tests * (1 + most) + k .patterns * (1 + most))
 
   steps-together : (x y : Counts) → counted-steps x + counted-steps y ≡ counted-steps (together x y)
   unfolding counted-steps together
-  steps-together x y = omega (arith, add-mul (x .loads) (y .loads) (1 + most + size), add-mul (x .others) (y .others) (1 + 4 * most))
+  steps-together x y =
+      omega (
+        arith,
+        add-mul (x .loads) (y .loads) (1 + most + size),
+        add-mul (x .others) (y .others) (1 + 4 * most),
+        add-mul (x .tests) (y .tests) (1 + most),
+        add-mul (x .patterns) (y .patterns) (1 + most),
+      )
 
-  one-step : (loads : Bool) → step-ceiling most size loads ≡ counted-steps (step-counts loads)
+  one-step : (kind : Kind) → step-ceiling most size kind ≡ counted-steps (step-counts kind)
   unfolding step-ceiling counted-steps step-counts
-  one-step true = omega (arith, one-mul (1 + most + size), zero-mul (1 + 4 * most))
-  one-step false = omega (arith, zero-mul (1 + most + size), one-mul (1 + 4 * most))
+  one-step Kind.loading = omega (arith, one-mul (1 + most + size), zero-mul (1 + 4 * most), zero-mul (1 + most))
+  one-step (Kind.testing t) = omega (arith, zero-mul (1 + most + size), zero-mul (1 + 4 * most), one-mul (1 + most))
+  one-step Kind.other = omega (arith, zero-mul (1 + most + size), one-mul (1 + 4 * most), zero-mul (1 + most))
+
+  no-step : 0 ≡ counted-steps no-steps
+  unfolding counted-steps
+  no-step = omega (arith, zero-mul (1 + most + size), zero-mul (1 + 4 * most), zero-mul (1 + most))
 
   elms-counted : (es : List Elm) → elms-ceiling most size es ≡ counted-steps (elms-counts es)
-  unfolding elms-ceiling elms-counts counted-steps
-  elms-counted [] = omega (arith, zero-mul (1 + most + size), zero-mul (1 + 4 * most))
-  elms-counted (e ∷ es) = rw (one-step (shape e .loads), elms-counted es) (steps-together _ _)
+  unfolding elms-ceiling elms-counts
+  elms-counted [] = no-step
+  elms-counted (e ∷ es) = rw (one-step (shape e .kind), elms-counted es) (steps-together _ _)
 
   code-counted : (c : Code) → code-ceiling most size c ≡ counted-steps (code-counts c)
   unfolding code-ceiling code-counts
   code-counted (Code.function es) = elms-counted es
-  code-counted (Code.single k) = one-step false
+  code-counted (Code.single k) = one-step (conversion-kind k)
 
-  -- The sum over a string's steps is A x (1 + most + R) + B x (1 + 4 x most), whatever the limit.
+  -- The sum over a string's steps is A x (1 + most + R) + B x (1 + 4 x most) + T x (1 + most) + P x (1 + most), whatever the limit.
   pub codes-counted : (cs : List Code) → codes-ceiling most size cs ≡ counted-steps (codes-counts cs)
-  unfolding codes-ceiling codes-counts counted-steps
-  codes-counted [] = omega (arith, zero-mul (1 + most + size), zero-mul (1 + 4 * most))
+  unfolding codes-ceiling codes-counts
+  codes-counted [] = no-step
   codes-counted (c ∷ cs) = rw (code-counted c, codes-counted cs) (steps-together _ _)
 
--- Document 01's form: "m x (A x (1,025 + R) + B x 4,097)".
-pub ceiling-counted : (size : ℕ) (cs : List Code) (m : ℕ) → ceiling size cs m ≡ counted-ceiling (attribute-loads cs) (other-steps cs) size m
-unfolding ceiling ceiling-over counted-ceiling attribute-loads other-steps counted-steps
+-- Document 01's form: "m x (A x (1,025 + R) + B x 4,097)", with the place of P codes in it.
+pub ceiling-counted : (size : ℕ) (cs : List Code) (m : ℕ) → ceiling size cs m ≡ counted-ceiling (codes-counts cs) size m
+unfolding ceiling ceiling-over counted-ceiling counted-steps
 ceiling-counted size cs m = ap (λ n. m * n) (codes-counted entry-most size cs)
 
 -- the limit of 1,024 put in
-pub ceiling-read : (loads others size m : ℕ) → counted-ceiling loads others size m ≡ m * (loads * (1_025 + size) + others * 4_097)
+pub ceiling-read : (k : Counts) (size m : ℕ)
+    → counted-ceiling k size m ≡ m * (k .loads * (1_025 + size) + k .others * 4_097 + (k .tests * 1_025 + k .patterns * 1_025))
 unfolding counted-ceiling entry-most
-ceiling-read loads others size m = refl
+ceiling-read k size m = refl
 
--- from the numbers A and B that checking reports
-pub ceiling-reported : (size m : ℕ) (c : Checked) → ceiling size (codes-of c) m ≡ counted-ceiling (report c .loads) (report c .others) size m
-unfolding report attribute-loads other-steps codes-counts
+-- from the numbers A, B, P and T that checking reports
+pub ceiling-reported : (size m : ℕ) (c : Checked) → ceiling size (codes-of c) m ≡ counted-ceiling (report c .steps) size m
+unfolding report codes-counts
 ceiling-reported size m (accepted cs) = ceiling-counted size cs m
 ceiling-reported size m (faulty n k) = ceiling-counted size [] m
+
+-- A P code's place in the ceiling is reached, by every element as long as the limit that passes.
+pub patterns-reach : (most : ℕ) (item e : Bytes) (ps : List Pattern) → length e ≡ most → some-passes ps e ≡ true
+    → price (Kind.testing (tests-in ps)) item (e ∷ []) (patterns-give ps e ∷ []) ≡ step-ceiling most (length item) (Kind.testing (tests-in ps))
+unfolding price charged bytes-in step-ceiling patterns-give
+patterns-reach most item e ps h passed =
+    let each : tests-in ps * (length e + 0 + 1) ≡ tests-in ps * (1 + most) = ap (λ n. tests-in ps * n) (omega arith) in
+    rw passed (omega arith)

@@ -16,8 +16,8 @@ use Rattle.paper.specs.Codes.{Elm}
 use Rattle.paper.specs.Grammar.{Reader, follow, _>>=_, _>>_, gives, fails, only-if, ahead, this, flag, choose, more-digits, numeral, num, onto, quoted}
 use Rattle.paper.specs.Grammar.{separator, group-after, group-code, extract-from, extract-code, admit-from, length-after, length-code, except-code}
 use Rattle.paper.specs.Grammar.{character-code, scales, credit-letter, fill-byte, fill-width, fill-part, mask-code, is-separator, date-after, date-code}
-use Rattle.paper.specs.Grammar.{masking-code, conversion, repeats, attribute-elm, literal-elm, previous-elm, multiply-elm, bracket-elm, converting-elm}
-use Rattle.paper.specs.Grammar.{operator-elm, elm, parted, elms, function-code, code}
+use Rattle.paper.specs.Grammar.{masking-code, class-letter, count-test, literal-test, test, tests, pattern, pattern-list, pattern-code, conversion, repeats, attribute-elm, literal-elm, previous-elm, multiply-elm, bracket-elm, converting-elm}
+use Rattle.paper.specs.Grammar.{operator-elm, elm, parted, closed-by, elms, function-code, code}
 use Rattle.paper.proofs.Predicates.{All, none-of, and-all}
 use Rattle.paper.proofs.Splitting.{Without, Told, absent, present, told, told-map}
 
@@ -48,7 +48,7 @@ unfolding choose
 choose-none [] = refl
 choose-none (c ∷ cs) = choose-none cs
 
-told-follow : {A B : Type 0} {P : A × Bytes → Type 0} {Q : B × Bytes → Type 0} {o : Option (A × Bytes)} (k : A → Reader B) → Told P o
+pub told-follow : {A B : Type 0} {P : A × Bytes → Type 0} {Q : B × Bytes → Type 0} {o : Option (A × Bytes)} (k : A → Reader B) → Told P o
     → ((x : A × Bytes) → P x → Told Q (k (x .0) (x .1))) → Told Q (follow o k)
 told-follow k absent f = absent
 told-follow k (present {a = x} p) f = f x p
@@ -208,6 +208,53 @@ module _ {A : Type 0} (c : ℕ) (r : Reader A) where
     pub eats-all : Without (eqb c) closes → Eats closes (λ bs. parted (length bs) c r bs)
     eats-all h = record { at = λ bs. told-map (λ x (t, s, f). (t, s, λ new l. enough _ _ (f new l))) (eats-parted (length bs) c h eats .at bs) }
 
+-- One or more up to the byte c: c eats them, whatever closes.
+module _ {A : Type 0} (c : ℕ) (r : Reader A) {closes : Bytes} (eats : Eats closes r) (starts : r [] ≡ none) where
+  closed-none : (fuel : ℕ) → closed-by fuel c r [] ≡ none
+  unfolding closed-by
+  closed-none zero = refl
+  closed-none (suc fuel) = rw starts
+
+  eats-closed : (fuel : ℕ) → Eats closes (closed-by fuel c r)
+  unfolding closed-by
+  eats-closed zero = eats-fails
+  eats-closed (suc fuel) =
+      eats-then eats (λ x. eats-ahead (inr (rw (closed-none fuel))) (λ _. eats-gives) (eats-then (eats-closed fuel) (λ xs. eats-gives)))
+
+  -- what is read with fuel k is read with fuel m, of bytes no more than that
+  abbrev Again : ℕ → ℕ → Type 0
+  Again k m = (bs : Bytes) (y : List A × Bytes) → closed-by k c r bs ≡ some y → length bs ≤ m → closed-by m c r bs ≡ some y
+
+  -- with fuel of the bytes' number, where each eats a byte
+  closed-enough : (k m : ℕ) → Again k m
+  unfolding closed-by
+  closed-enough zero m bs y e l = absurd (Option·none-ne-some _ e)
+  closed-enough (suc k) zero [] y e l = absurd (Option·none-ne-some _ (sym (closed-none (suc k)) ∙ e))
+  closed-enough (suc k) zero (b ∷ bs) y e l = absurd (omega arith)
+  closed-enough (suc k) (suc m) bs y e l = go (r bs) refl (closed-enough k m) e
+    where
+      again : (x : A) (rest : Bytes) (o : Option (List A × Bytes)) → closed-by k c r rest ≡ o → length rest ≤ m
+          → Again k m → follow o (λ xs. gives (x ∷ xs)) ≡ some y → follow (closed-by m c r rest) (λ xs. gives (x ∷ xs)) ≡ some y
+      again x rest none f h ih g = absurd (Option·none-ne-some _ g)
+      again x rest (some z) f h ih g = rw (ih rest z f h) g
+
+      either : (t : Bool) (x : A) (b : ℕ) (more : Bytes) → length (b ∷ more) ≤ m → Again k m
+          → (if t then some (x ∷ [], more) else follow (closed-by k c r (b ∷ more)) (λ xs. gives (x ∷ xs))) ≡ some y
+          → (if t then some (x ∷ [], more) else follow (closed-by m c r (b ∷ more)) (λ xs. gives (x ∷ xs))) ≡ some y
+      either true x b more h ih g = g
+      either false x b more h ih g = again x (b ∷ more) (closed-by k c r (b ∷ more)) refl h ih g
+
+      go : (o : Option (A × Bytes)) → r bs ≡ o → Again k m
+          → follow o (λ x. ahead (eqb c) (λ _. gives (x ∷ [])) (closed-by k c r >>= λ xs. gives (x ∷ xs))) ≡ some y
+          → follow o (λ x. ahead (eqb c) (λ _. gives (x ∷ [])) (closed-by m c r >>= λ xs. gives (x ∷ xs))) ≡ some y
+      go none f ih g = absurd (Option·none-ne-some _ g)
+      go (some (x, [])) f ih g = again x [] (closed-by k c r []) refl (omega arith) ih g
+      go (some (x, b ∷ more)) f ih g = either (eqb c b) x b more (omega (arith, eats-a-byte eats starts f)) ih g
+
+  pub eats-all-closed : Eats closes (λ bs. closed-by (length bs) c r bs)
+  eats-all-closed =
+      record { at = λ bs. told-map (λ x (t, s, f). (t, s, λ new l. closed-enough _ _ _ _ (f new l) (omega arith))) (eats-closed (length bs) .at bs) }
+
 -- texts, each read whole
 pub data Texts {A : Type 0} (r : Reader A) : List Bytes → List A → Type 0 where
   one : {t : Bytes} {x : A} → r t ≡ some (x, []) → Texts r (t ∷ []) (x ∷ [])
@@ -225,11 +272,31 @@ closing = ch ";" ∷ ch ")" ∷ []
 
 pub ruleset eating = (eats-then, eats-next, eats-gives, eats-fails, eats-only-if, eats-ahead, eats-choose, eats-more-digits, none-of, and-all, inl, inr)
 
+test-eats : Eats (ch ")" ∷ []) test
+unfolding test count-test class-letter literal-test is-digit
+test-eats = search (eating, eats-quoted) depth 40
+
+pub tests-eat : Eats (ch ")" ∷ []) tests
+unfolding tests test choose
+tests-eat = eats-all-closed (ch ")") test test-eats refl
+
+pub pattern-eats : Eats (ch ")" ∷ []) pattern
+unfolding pattern this
+pattern-eats = eats-next {r = this (ch "(")} (search eating depth 20) tests-eat
+
+pub patterns-eat : Eats (ch ")" ∷ []) pattern-list
+unfolding pattern-list pattern this tests closed-by
+patterns-eat = eats-all (ch ";") pattern pattern-eats refl (and-all refl none-of)
+
+pattern-code-eats : Eats (ch ")" ∷ []) pattern-code
+unfolding pattern-code
+pattern-code-eats = eats-then patterns-eat (λ ps. eats-gives)
+
 pub conversion-eats : Eats (ch ")" ∷ []) conversion
 unfolding conversion group-code group-after separator num numeral extract-code extract-from length-code length-after admit-from
     character-code except-code masking-code mask-code scales flag credit-letter fill-part fill-byte fill-width this
     date-code date-after is-separator is-digit is-letter is-upper is-lower
-conversion-eats = search eating depth 60 fits 5000
+conversion-eats = search (eating, pattern-code-eats) depth 60 fits 5000
 
 -- a `)` always follows a conversion in an elm, so that `;` need not close it
 converting-eats : Eats closing converting-elm

@@ -5,15 +5,15 @@ use mathlib.Core.Path.{_≡_, refl, sym}
 use mathlib.Core.Bool.{Bool, true, false}
 use mathlib.Core.List.{List, [], _∷_, _++_}
 use native.Mathlib.Omega.{arith}
-use native.Mathlib.Nat.{mul-le-mul-right, le-trans, suc-mul, zero-add, add-assoc, add-comm}
+use native.Mathlib.Nat.{mul-le-mul-right, mul-le-mul-left, le-trans, suc-mul, zero-add, add-assoc, add-comm}
 use lib.ListN.{length, take, drop, length-append, length-drop, length-take}
 use lib.Dec.{leb, lit≤}
 use borrow.Author.Tests.{leb-true}
-use Rattle.paper.specs.Bytes.{Bytes, if_then_else_}
+use Rattle.paper.specs.Bytes.{Bytes}
 use Rattle.paper.specs.Refusals.{Res, given, refused, _>>_, refuse_unless_, over-long-entry}
-use Rattle.paper.specs.Codes.{Elm, Operand}
-use Rattle.paper.specs.Checking.{shape, stacked}
-use Rattle.paper.specs.Steps.{Setting, on-one, on-two, on-three, bytes-in, price, step-ceiling, limited, one-entry, elm-puts, elm-step}
+use Rattle.paper.specs.Codes.{Conversion, Elm, Operand, Kind}
+use Rattle.paper.specs.Checking.{conversion-kind, shape, stacked}
+use Rattle.paper.specs.Steps.{Setting, on-one, on-two, on-three, bytes-in, charged, price, step-ceiling, limited, one-entry, elm-puts, elm-step}
 use Rattle.paper.proofs.Predicates.{Holds, holds, refuses, holds-then, holds-next, All, none-of, and-all, all-append}
 
 module _ (most : ℕ) where
@@ -85,11 +85,20 @@ module _ (most : ℕ) where
   bytes-in-append [] ys = sym (zero-add _)
   bytes-in-append (x ∷ xs) ys = rw (bytes-in-append xs ys) (sym (add-assoc _ _ _))
 
-  -- entries counted by a cost: those put by a load, those taken and put by any other step
-  abbrev pub counted : Bool → ℕ → ℕ → ℕ
-  counted loads takes puts = if loads then puts else takes + puts
+  -- entries counted by a cost: those put by a load, one taken and one put by a P code, four at most by any other step
+  abbrev pub Few : Kind → ℕ → ℕ → Type 0
+  Few Kind.loading takes puts = puts ≤ 1
+  Few (Kind.testing t) takes puts = (takes ≤ 1) × (puts ≤ 1)
+  Few Kind.other takes puts = takes + puts ≤ 4
 
-  few-counted : (e : Elm) → counted (shape e .loads) (shape e .takes) (shape e .puts) ≤ (if shape e .loads then 1 else 4)
+  pub few-converted : (k : Conversion) → Few (conversion-kind k) 1 1
+  unfolding conversion-kind
+  few-converted (Conversion.plain p) = lit≤ tt
+  few-converted (Conversion.mask m) = lit≤ tt
+  few-converted (Conversion.date n s) = lit≤ tt
+  few-converted (Conversion.patterns ps) = (lit≤ tt, lit≤ tt)
+
+  few-counted : (e : Elm) → Few (shape e .kind) (shape e .takes) (shape e .puts)
   unfolding shape
   few-counted (Elm.push (Operand.attribute n r)) = lit≤ tt
   few-counted (Elm.push (Operand.literal bs)) = lit≤ tt
@@ -98,23 +107,26 @@ module _ (most : ℕ) where
   few-counted Elm.substring = lit≤ tt
   few-counted Elm.exchange = lit≤ tt
   few-counted Elm.duplicate = lit≤ tt
-  few-counted (Elm.convert k) = lit≤ tt
+  few-counted (Elm.convert k) = few-converted k
 
   -- so many bytes at most in at most so many entries
   bytes-within : (n : ℕ) {xs : List Bytes} → All Fit xs → length xs ≤ n → bytes-in xs ≤ n * most
   bytes-within n fits h = le-trans (bytes-of-entries fits) (mul-le-mul-right most h)
 
-  pub price-capped : (item : Bytes) (loads : Bool) (takes puts : ℕ) (taken put : List Bytes) → All Fit taken
-      → length taken ≤ takes → length put ≡ puts → All Fit put → counted loads takes puts ≤ (if loads then 1 else 4)
-      → price loads item taken put ≤ step-ceiling most (length item) loads
-  unfolding price step-ceiling
-  price-capped item true takes puts taken put taken-fits t p fits few = omega (arith, bytes-within 1 fits (omega arith))
-  price-capped item false takes puts taken put taken-fits t p fits few =
+  pub price-capped : (item : Bytes) (kind : Kind) (takes puts : ℕ) (taken put : List Bytes) → All Fit taken
+      → length taken ≤ takes → length put ≡ puts → All Fit put → Few kind takes puts
+      → price kind item taken put ≤ step-ceiling most (length item) kind
+  unfolding price charged step-ceiling
+  price-capped item Kind.loading takes puts taken put taken-fits t p fits few = omega (arith, bytes-within 1 fits (omega arith))
+  price-capped item (Kind.testing n) takes puts taken put taken-fits t p fits few =
+      let one : bytes-in taken + 1 ≤ 1 + most = omega (arith, bytes-within 1 taken-fits (omega (arith, few .0))) in
+      omega (arith, mul-le-mul-left n one, bytes-within 1 fits (omega (arith, few .1)))
+  price-capped item Kind.other takes puts taken put taken-fits t p fits few =
       omega (arith, bytes-within 4 (all-append taken-fits fits) (rw length-append (omega arith)), bytes-in-append taken put)
 
   -- What an elm's step comes to: a cost within the most that it can be, and a stack of entries within the limit, as many as the check counts.
   pub record Stepped (item : Bytes) (e : Elm) (stack : List Bytes) (r : ℕ × List Bytes) : Type 0 where
-    pub capped : r .0 ≤ step-ceiling most (length item) (shape e .loads)
+    pub capped : r .0 ≤ step-ceiling most (length item) (shape e .kind)
     pub fit : All Fit (r .1)
     pub deep : length (r .1) ≡ length stack - shape e .takes + shape e .puts
 
@@ -125,7 +137,7 @@ module _ (most : ℕ) where
       holds-next (stacked e (length stack)) (λ d q. holds-then (puts-entries c e stack fits) (λ put p. holds
       (record {
         capped =
-            price-capped (c .item) (shape e .loads) (shape e .takes) (shape e .puts) (take (shape e .takes) stack) put
+            price-capped (c .item) (shape e .kind) (shape e .takes) (shape e .puts) (take (shape e .takes) stack) put
             (fits-take (shape e .takes) fits)
             (rw length-take (omega arith))
             (p .1)

@@ -11,12 +11,13 @@ use Rattle.paper.specs.Bytes.{Bytes, if_then_else_, ch, bytes, is-digit,
 use Rattle.paper.specs.Sizes.{attribute-mark, value-mark, subvalue-mark, record-most, is-mark, is-outer-mark, is-inner-mark, entry-most, scratch-least}
 use Rattle.paper.specs.Records.{split, join, placed, pieces, nth, path, part-at, whole, id-of, place, lawful-id, lawful-record, lawful-address, reads}
 use Rattle.paper.specs.Numbers.{signed, natural, value, numeric, ranged, number, digits, trimmed, decimal, number-text, negated, plus, times, quotient, remainder, below, bytes-below, compared, holds, binary-gives, substring-gives}
-use Rattle.paper.specs.Grammar.{this, flag, choose, more-digits, numeral, num, quoted, separator, group-after, group-code, extract-from, extract-code, admit-from, length-after, length-code, except-code, character-code, scales, credit-letter, fill-byte, fill-width, fill-part, mask-code, is-separator, date-after, date-code, masking-code, conversion, repeats, attribute-elm, literal-elm, previous-elm, multiply-elm, bracket-elm, converting-elm, operator-elm, elm, parted, elms, function-code, code, read}
-use Rattle.paper.specs.Checking.{shape, stacked, all-stacked, lawful, judged, judged-all, code-texts, check, together, step-counts, elms-counts, code-counts, codes-counts, attribute-loads, other-steps, report, codes-of, checked-codes}
+use Rattle.paper.specs.Grammar.{this, flag, choose, more-digits, numeral, num, quoted, closed-by, class-letter, count-test, literal-test, test, tests, pattern, pattern-list, pattern-code, separator, group-after, group-code, extract-from, extract-code, admit-from, length-after, length-code, except-code, character-code, scales, credit-letter, fill-byte, fill-width, fill-part, mask-code, is-separator, date-after, date-code, masking-code, conversion, repeats, attribute-elm, literal-elm, previous-elm, multiply-elm, bracket-elm, converting-elm, operator-elm, elm, parted, elms, function-code, code, read}
+use Rattle.paper.specs.Checking.{conversion-kind, shape, stacked, all-stacked, lawful, judged, judged-all, code-texts, check, together, step-counts, elms-counts, code-counts, codes-counts, report, codes-of, checked-codes}
+use Rattle.paper.specs.Patterns.{of-class, every, counts, meets, some-cut, passes, some-passes, patterns-give, tests-in}
 use Rattle.paper.specs.Texts.{raised, lowered, titled, hex-digit, hexed, hex-value, unhexed, plain-gives}
 use Rattle.paper.specs.Masks.{number-gives, rounded, scaled, grouped, integer-text, point-text, digits-text, before-digits, after-digits, masked-text, laid-out, blank-text, number-masked, mask-gives}
 use Rattle.paper.specs.Dates.{leap, month-lengths, month-names, days-before-year, year-of, month-day, date-of, ranged-day, year-text, date-text, date-gives}
-use Rattle.paper.specs.Steps.{onward, stepped, conversion-gives, load-path, operand, bytes-in, price, step-ceiling, top-entry, limited, elm-puts, elm-step, conversion-step, elms-run, code-run, codes-run, element-run}
+use Rattle.paper.specs.Steps.{onward, stepped, conversion-gives, load-path, operand, bytes-in, charged, price, step-ceiling, top-entry, limited, elm-puts, elm-step, conversion-step, elms-run, code-run, codes-run, element-run}
 use Rattle.paper.specs.Converting.{Outcome, subvalues, values, from-one, elements-in, elements-of, elements, elements-run, within-budget, lawful-place, lawful-code, ready, run, fitted, finished, carried-out, convert, elms-ceiling, code-ceiling, codes-ceiling, ceiling-over, ceiling, counted-ceiling}
 use Rattle.paper.specs.Program.{program-budget, drawn, printed}
 
@@ -26,7 +27,7 @@ marked b =
     if eqb b (ch "^") then attribute-mark
     else (if eqb b (ch "]") then value-mark else (if eqb b (ch "\\") then subvalue-mark else b))
 
--- What an example calls: converting a record at an address under a budget; its ceiling, the sum over steps, and from a check's A and B;
+-- What an example calls: converting a record at an address under a budget; its ceiling, the sum over steps, and from a check's numbers;
 -- a code on an element; a check.
 data Example : Type 0 where
   converting : String → String → ℕ → ℕ → ℕ → ℕ → Example
@@ -43,7 +44,7 @@ with-steps o = decimal (refusal-of (o .answer)) ++ ch " " ∷ decimal (o .steps)
 
 -- What it tells: the refusal, the steps where they are asked for, and the answer, marks drawn; a ceiling; a check's refusal.
 told : Example → Bytes
-unfolding bytes is-digit is-upper is-lower is-letter digit-value any only same-bytes is-mark is-outer-mark is-inner-mark entry-most scratch-least split join placed pieces nth path part-at whole id-of place lawful-id lawful-record lawful-address reads signed natural value numeric ranged number digits trimmed decimal number-text negated plus times quotient remainder below bytes-below compared holds binary-gives substring-gives this flag choose more-digits numeral num quoted separator group-after group-code extract-from extract-code admit-from length-after length-code except-code character-code scales credit-letter fill-byte fill-width fill-part mask-code is-separator date-after date-code masking-code conversion repeats attribute-elm literal-elm previous-elm multiply-elm bracket-elm converting-elm operator-elm elm parted elms function-code code read shape stacked all-stacked lawful judged judged-all code-texts check together step-counts elms-counts code-counts codes-counts attribute-loads other-steps report checked-codes raised lowered titled hex-digit hexed hex-value unhexed plain-gives number-gives rounded scaled grouped integer-text point-text digits-text before-digits after-digits masked-text laid-out blank-text number-masked mask-gives leap month-lengths month-names days-before-year year-of month-day date-of ranged-day year-text date-text date-gives onward stepped conversion-gives load-path operand bytes-in price step-ceiling top-entry limited elm-puts elm-step conversion-step elms-run code-run codes-run element-run subvalues values from-one elements-in elements-of elements elements-run within-budget lawful-place lawful-code ready run fitted finished carried-out convert elms-ceiling code-ceiling codes-ceiling ceiling-over ceiling counted-ceiling drawn printed marked
+unfolding bytes is-digit is-upper is-lower is-letter digit-value any only same-bytes is-mark is-outer-mark is-inner-mark entry-most scratch-least split join placed pieces nth path part-at whole id-of place lawful-id lawful-record lawful-address reads signed natural value numeric ranged number digits trimmed decimal number-text negated plus times quotient remainder below bytes-below compared holds binary-gives substring-gives this flag choose more-digits numeral num quoted closed-by class-letter count-test literal-test test tests pattern pattern-list pattern-code separator group-after group-code extract-from extract-code admit-from length-after length-code except-code character-code scales credit-letter fill-byte fill-width fill-part mask-code is-separator date-after date-code masking-code conversion repeats attribute-elm literal-elm previous-elm multiply-elm bracket-elm converting-elm operator-elm elm parted elms function-code code read of-class every counts meets some-cut passes some-passes patterns-give tests-in conversion-kind shape stacked all-stacked lawful judged judged-all code-texts check together step-counts elms-counts code-counts codes-counts report checked-codes raised lowered titled hex-digit hexed hex-value unhexed plain-gives number-gives rounded scaled grouped integer-text point-text digits-text before-digits after-digits masked-text laid-out blank-text number-masked mask-gives leap month-lengths month-names days-before-year year-of month-day date-of ranged-day year-text date-text date-gives onward stepped conversion-gives load-path operand bytes-in charged price step-ceiling top-entry limited elm-puts elm-step conversion-step elms-run code-run codes-run element-run subvalues values from-one elements-in elements-of elements elements-run within-budget lawful-place lawful-code ready run fitted finished carried-out convert elms-ceiling code-ceiling codes-ceiling ceiling-over ceiling counted-ceiling drawn printed marked
 told (converting item code a v s budget) =
     with-steps (convert (map marked (bytes item)) (bytes code) a v s budget record-most scratch-least)
 told (at-most item code a v s) =
@@ -52,7 +53,7 @@ told (at-most item code a v s) =
 told (from-counts item code a v s) =
     let r = report (check (bytes code)) in
     decimal
-    (counted-ceiling (r .loads) (r .others) (length (bytes item)) (length (elements (map marked (bytes item)) a v s)))
+    (counted-ceiling (r .steps) (length (bytes item)) (length (elements (map marked (bytes item)) a v s)))
 told (giving code element) =
     without-steps
     (convert (map marked (bytes "K1^") ++ bytes element) (bytes code) 1 0 0 program-budget record-most scratch-least)
@@ -116,3 +117,36 @@ slips =
 easy-slips : all-told slips ≡ all-said slips
 unfolding told slips marked bytes
 easy-slips = refl
+
+-- Document 02, L1, and the slips that its readers warn of
+patterns : List Row
+patterns =
+    -- "if it can be cut": some cut, not the longest first part
+    row (giving "P(0N1N)" "7") "0 7"
+    ∷ row (giving "P(0X'a')" "banana") "0 banana"
+    ∷ row (giving "P(0X'aa')" "aaa") "0 aaa"
+    -- nothing is left over
+    ∷ row (giving "P(3X)" "ab") "0 "
+    ∷ row (giving "P(3X)" "abcd") "0 "
+    -- "0 meaning any number and none"
+    ∷ row (giving "P(0N)(" "") "6 "
+    ∷ row (giving "P('a'0N'b')" "ab") "0 ab"
+    ∷ row (giving "P(001N)" "1") "0 1"
+    ∷ row (giving "P('')" "x") "0 "
+    -- "Several patterns pass if one does", and T counts the tests of all of them
+    ∷ row (converting "K1^AB" "P(1N);(2A)" 1 0 0 program-budget) "0 9 AB"
+    ∷ row (converting "K1^A1" "P(1N);(2A)" 1 0 0 program-budget) "0 7 "
+    ∷ row (converting "K1^AB" "P(2A);(1N)" 1 0 0 program-budget) "0 9 AB"
+    ∷ row (converting "K1^AB" "P(2A);(1N)" 1 0 0 8) "15 0 "
+    -- in F's parentheses too
+    ∷ row (converting "K1^10]20^3" "F;1;(P(1N);(2A))" 1 0 0 program-budget) "0 40 ]"
+    ∷ row (at-most "K1^10]20^3" "F;1;(P(1N);(2A))" 1 0 0) "8220"
+    ∷ row (from-counts "K1^10]20^3" "F;1;(P(1N);(2A))" 1 0 0) "8220"
+    ∷ row (checking "F;1;(P(1N));(L)") "0"
+    ∷ row (checking "F;1;(P(1N);(L))") "6"
+    ∷ row (checking "F;1;P;+") "0"
+    ∷ []
+
+pattern-examples : all-told patterns ≡ all-said patterns
+unfolding told patterns marked bytes
+pattern-examples = refl

@@ -9,6 +9,7 @@ pub mod Fewest
 pub mod Limits
 pub mod Numbered
 pub mod Numerals
+pub mod Patterns
 pub mod Predicates
 pub mod Ranges
 pub mod Refusing
@@ -18,3 +19,4 @@ pub mod Settled
 pub mod Splitting
 pub mod Stack
 pub mod Truths
+pub mod Weights

@@ -132,6 +132,7 @@ conversion-numbered (Conversion.mask k) [] = answered
 conversion-numbered (Conversion.mask k) (b ∷ bs) = search (tests, on-numbered, laid-numbered, either (Numbered {A = Bytes} own)) depth 8
 conversion-numbered (Conversion.date n s) [] = answered
 conversion-numbered (Conversion.date n s) (b ∷ bs) = search (tests, on-numbered) depth 8
+conversion-numbered (Conversion.patterns ps) e = answered
 
 -- checking: 5, 6, 7
 all-stacked-numbered : (es : List Elm) (held : ℕ) → Numbered early (all-stacked es held)

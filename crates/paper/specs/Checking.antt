@@ -1,4 +1,4 @@
--- Document 01, "The code grammar" and "Steps" (A and B): checking a code string.
+-- Document 01, "The code grammar" and "Steps" (A and B), and document 02, L1 (P and T): checking a code string.
 use Prim.Native.Nat.{ℕ, suc, _+_, _-_, _≤_}
 use mathlib.Core.Bool.{Bool, true, false}
 use mathlib.Core.List.{List, [], _∷_}
@@ -8,8 +8,9 @@ use lib.Dec.{leb}
 use Rattle.paper.specs.Bytes.{Bytes, if_then_else_}
 use Rattle.paper.specs.Sizes.{value-mark, code-most, stack-most}
 use Rattle.paper.specs.Records.{split}
-use Rattle.paper.specs.Codes.{Operand, Elm, Code, Shape}
+use Rattle.paper.specs.Codes.{Conversion, Operand, Elm, Code, Kind, Shape}
 use Rattle.paper.specs.Grammar.{read}
+use Rattle.paper.specs.Patterns.{tests-in}
 use Rattle.paper.specs.Refusals.{
   Res,
   given,
@@ -22,19 +23,26 @@ use Rattle.paper.specs.Refusals.{
   stack-fault,
 }
 
-abbrev pub shaped : ℕ → ℕ → Bool → Shape
-shaped takes puts loads = record { takes = takes; puts = puts; loads = loads }
+abbrev pub shaped : ℕ → ℕ → Kind → Shape
+shaped takes puts kind = record { takes = takes; puts = puts; kind = kind }
+
+-- the step of a code other than F
+unfoldable pub conversion-kind : Conversion → Kind
+conversion-kind (Conversion.plain p) = Kind.other
+conversion-kind (Conversion.mask k) = Kind.other
+conversion-kind (Conversion.date n s) = Kind.other
+conversion-kind (Conversion.patterns ps) = Kind.testing (tests-in ps)
 
 -- "`P` takes one entry and puts two, `_` takes and puts two, a literal or LPV takes none"
 unfoldable pub shape : Elm → Shape
-shape (Elm.push (Operand.attribute n r)) = shaped 0 1 true
-shape (Elm.push (Operand.literal bs)) = shaped 0 1 false
-shape (Elm.push Operand.previous) = shaped 0 1 false
-shape (Elm.binary o) = shaped 2 1 false
-shape Elm.substring = shaped 3 1 false
-shape Elm.exchange = shaped 2 2 false
-shape Elm.duplicate = shaped 1 2 false
-shape (Elm.convert c) = shaped 1 1 false
+shape (Elm.push (Operand.attribute n r)) = shaped 0 1 Kind.loading
+shape (Elm.push (Operand.literal bs)) = shaped 0 1 Kind.other
+shape (Elm.push Operand.previous) = shaped 0 1 Kind.other
+shape (Elm.binary o) = shaped 2 1 Kind.other
+shape Elm.substring = shaped 3 1 Kind.other
+shape Elm.exchange = shaped 2 2 Kind.other
+shape Elm.duplicate = shaped 1 2 Kind.other
+shape (Elm.convert c) = shaped 1 1 (conversion-kind c)
 
 -- an elm of this shape can be applied to so many entries
 pub record Room (e : Elm) (entries : ℕ) : Type 0 where
@@ -95,51 +103,50 @@ code-texts (b ∷ bs) = split value-mark (b ∷ bs)
 unfoldable pub check : Bytes → Checked
 check string = if leb (length string) code-most then judged-all 1 (code-texts string) else faulty over-long-code 0
 
--- Steps by their kind, "A attribute loads and B other steps": a further kind is a further field.
+-- Steps by their kind, "A attribute loads and B other steps", P codes (which B does not count) and the tests in them: a further kind is a further field.
 pub record Counts : Type 0 where
   pub loads : ℕ
   pub others : ℕ
+  pub patterns : ℕ
+  pub tests : ℕ
 
-abbrev pub counted : ℕ → ℕ → Counts
-counted loads others = record { loads = loads; others = others }
+abbrev pub counted : ℕ → ℕ → ℕ → ℕ → Counts
+counted loads others patterns tests = record { loads = loads; others = others; patterns = patterns; tests = tests }
+
+abbrev pub no-steps : Counts
+no-steps = counted 0 0 0 0
 
 unfoldable pub together : Counts → Counts → Counts
-together x y = counted (x .loads + y .loads) (x .others + y .others)
+together x y = counted (x .loads + y .loads) (x .others + y .others) (x .patterns + y .patterns) (x .tests + y .tests)
 
--- one step, which loads an attribute or not
-unfoldable pub step-counts : Bool → Counts
-step-counts loads = if loads then counted 1 0 else counted 0 1
+-- one step
+unfoldable pub step-counts : Kind → Counts
+step-counts Kind.loading = counted 1 0 0 0
+step-counts (Kind.testing t) = counted 0 0 1 t
+step-counts Kind.other = counted 0 1 0 0
 
 unfoldable pub elms-counts : List Elm → Counts
-elms-counts [] = counted 0 0
-elms-counts (e ∷ es) = together (step-counts (shape e .loads)) (elms-counts es)
+elms-counts [] = no-steps
+elms-counts (e ∷ es) = together (step-counts (shape e .kind)) (elms-counts es)
 
 -- "A step is one F elm, or one code other than F."
 unfoldable pub code-counts : Code → Counts
 code-counts (Code.function es) = elms-counts es
-code-counts (Code.single c) = step-counts false
+code-counts (Code.single c) = step-counts (conversion-kind c)
 
 unfoldable pub codes-counts : List Code → Counts
-codes-counts [] = counted 0 0
+codes-counts [] = no-steps
 codes-counts (c ∷ cs) = together (code-counts c) (codes-counts cs)
 
--- "A attribute loads and B other steps in the string"
-unfoldable pub attribute-loads : List Code → ℕ
-attribute-loads cs = codes-counts cs .loads
-
-unfoldable pub other-steps : List Code → ℕ
-other-steps cs = codes-counts cs .others
-
--- What checking reports. "accepted, it gives A and B"; "A number not given here, by any call, is 0"
+-- What checking reports. "accepted, it gives A and B", and with them P and T; "A number not given here, by any call, is 0"
 pub record Report : Type 0 where
   pub refusal : ℕ
   pub code-number : ℕ
-  pub loads : ℕ
-  pub others : ℕ
+  pub steps : Counts
 
 unfoldable pub report : Checked → Report
-report (accepted cs) = record { refusal = 0; code-number = 0; loads = attribute-loads cs; others = other-steps cs }
-report (faulty n k) = record { refusal = n; code-number = k; loads = 0; others = 0 }
+report (accepted cs) = record { refusal = 0; code-number = 0; steps = codes-counts cs }
+report (faulty n k) = record { refusal = n; code-number = k; steps = no-steps }
 
 -- the codes of a string that was checked; none where it is faulty
 abbrev pub codes-of : Checked → List Code

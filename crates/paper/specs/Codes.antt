@@ -34,12 +34,27 @@ pub record Mask : Type 0 where
   pub dollar : Bool
   pub filled : Option (ℕ × ℕ)
 
+-- `N`, `A` and `X` (000, 2.12): numeric, alpha, any character
+pub data Class : Type 0 where
+  numeric alpha character : Class
+
+-- Document 02, L1: "`nN`, `nA`, `nX`, a quoted literal, n of 1 to 3 digits, 0 meaning any number and none"
+pub data Test : Type 0 where
+  so-many : ℕ → Class → Test
+  literal : Bytes → Test
+
+-- "A pattern is one or more tests"
+abbrev pub Pattern : Type 0
+Pattern = List Test
+
 -- "any one code below": a code other than F
 pub data Conversion : Type 0 where
   plain : Plain → Conversion
   mask : Mask → Conversion
   -- `D{n}{s}`: digits of the year, and the separator
   date : ℕ → Option ℕ → Conversion
+  -- "`P` and one or more patterns, each in parentheses, parted by semicolons"
+  patterns : List Pattern → Conversion
 
 -- an attribute's number is followed by "nothing, `R` or `RR`"
 pub data Repeat : Type 0 where
@@ -63,8 +78,14 @@ pub data Code : Type 0 where
   function : List Elm → Code
   single : Conversion → Code
 
--- Entries taken and entries put by an elm, and whether it loads an attribute: the check, the machine, the cost and the ceiling share these.
+-- What a step is charged by: an attribute load, a P code "with T tests in the code", or any other step.
+pub data Kind : Type 0 where
+  loading : Kind
+  testing : ℕ → Kind
+  other : Kind
+
+-- Entries taken and entries put by an elm, and its kind: the check, the machine, the cost and the ceiling share these.
 pub record Shape : Type 0 where
   pub takes : ℕ
   pub puts : ℕ
-  pub loads : Bool
+  pub kind : Kind

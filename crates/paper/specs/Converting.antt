@@ -1,6 +1,5 @@
 -- Document 01, "What each code gives" (the elements of an address) and "Steps" (budget, count, ceiling): converting.
 use Prim.Native.Nat.{ℕ, zero, suc, _+_, _*_}
-use mathlib.Core.Bool.{false}
 use mathlib.Core.List.{List, [], _∷_, _++_}
 use mathlib.Core.Option.{Option, none, some}
 use lib.ListN.{length, replicate}
@@ -9,7 +8,7 @@ use Rattle.paper.specs.Bytes.{Bytes, if_then_else_, buffer}
 use Rattle.paper.specs.Sizes.{value-mark, subvalue-mark, entry-most, scratch-least}
 use Rattle.paper.specs.Records.{Part, split, place, lawful-record, lawful-address}
 use Rattle.paper.specs.Codes.{Elm, Code}
-use Rattle.paper.specs.Checking.{shape, check, checked-codes}
+use Rattle.paper.specs.Checking.{conversion-kind, shape, Counts, check, checked-codes}
 use Rattle.paper.specs.Steps.{Run, done, stop, step, onward, step-ceiling, element-run}
 use Rattle.paper.specs.Refusals.{Res, given, refused, _>>=_, _>>_, refuse_unless_, answer-of, short-scratch, over-budget, short-output}
 
@@ -148,11 +147,11 @@ scratch-after scratch = replicate scratch 0
 module _ (most size : ℕ) where
   unfoldable pub elms-ceiling : List Elm → ℕ
   elms-ceiling [] = 0
-  elms-ceiling (e ∷ es) = step-ceiling most size (shape e .loads) + elms-ceiling es
+  elms-ceiling (e ∷ es) = step-ceiling most size (shape e .kind) + elms-ceiling es
 
   unfoldable pub code-ceiling : Code → ℕ
   code-ceiling (Code.function es) = elms-ceiling es
-  code-ceiling (Code.single k) = step-ceiling most size false
+  code-ceiling (Code.single k) = step-ceiling most size (conversion-kind k)
 
   unfoldable pub codes-ceiling : List Code → ℕ
   codes-ceiling [] = 0
@@ -167,6 +166,8 @@ unfoldable pub ceiling : ℕ → List Code → ℕ → ℕ
 ceiling size cs m = ceiling-over entry-most size cs m
 
 -- the same from the numbers that checking gives, which proofs/Ceiling proves to be the sum:
--- "with A attribute loads and B other steps in the string, record length R and m elements, m x (A x (1,025 + R) + B x 4,097)"
-unfoldable pub counted-ceiling : ℕ → ℕ → ℕ → ℕ → ℕ
-counted-ceiling loads others size m = m * (loads * (1 + entry-most + size) + others * (1 + 4 * entry-most))
+-- "with A attribute loads and B other steps in the string, record length R and m elements, m x (A x (1,025 + R) + B x 4,097)", and where B does
+-- not count P codes, P of them with T tests in all: "In the ceiling such a step stands for T x 1,025 + 1,025 in place of 4,097."
+unfoldable pub counted-ceiling : Counts → ℕ → ℕ → ℕ
+counted-ceiling k size m =
+    m * (k .loads * (1 + entry-most + size) + k .others * (1 + 4 * entry-most) + (k .tests * (1 + entry-most) + k .patterns * (1 + entry-most)))

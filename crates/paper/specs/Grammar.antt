@@ -8,7 +8,7 @@ use lib.Dec.{ltb, eqb}
 use Rattle.paper.specs.Bytes.{Bytes, if_then_else_, ch, within, is-digit, is-letter, digit-value, any}
 use Rattle.paper.specs.Sizes.{is-mark}
 use Rattle.paper.specs.Numbers.{Binary, Relation}
-use Rattle.paper.specs.Codes.{Plain, Credit, Conversion, Repeat, Operand, Elm, Code}
+use Rattle.paper.specs.Codes.{Plain, Credit, Class, Test, Pattern, Conversion, Repeat, Operand, Elm, Code}
 
 infixl 5 _>>=_ _>>_
 -- What stands at the front of the bytes and the bytes after it, or none.
@@ -189,6 +189,53 @@ date-after n = ahead is-separator (λ s. gives (Conversion.date n (some s))) (gi
 unfoldable pub date-code : Reader Conversion
 date-code = ahead (within (ch "0") (ch "4")) (λ b. date-after (digit-value b)) (date-after 4)
 
+-- one or more, parted by the byte c: each eats a byte, so `fuel` of the bytes' number is enough
+unfoldable pub parted : {A : Type 0} → ℕ → ℕ → Reader A → Reader (List A)
+parted zero c r = fails
+parted (suc fuel) c r = do
+  x ← r
+  ahead (eqb c) (λ _. parted fuel c r >>= λ xs. gives (x ∷ xs)) (gives (x ∷ []))
+
+-- one or more with nothing between them, up to the byte c, which is eaten
+unfoldable pub closed-by : {A : Type 0} → ℕ → ℕ → Reader A → Reader (List A)
+closed-by zero c r = fails
+closed-by (suc fuel) c r = do
+  x ← r
+  ahead (eqb c) (λ _. gives (x ∷ [])) (closed-by fuel c r >>= λ xs. gives (x ∷ xs))
+
+-- Document 02, L1. `N`, `A` or `X`
+unfoldable pub class-letter : Reader Class
+class-letter = choose ((ch "N", gives Class.numeric) ∷ (ch "A", gives Class.alpha) ∷ (ch "X", gives Class.character) ∷ [])
+
+-- "`nN`, `nA`, `nX` .. n of 1 to 3 digits"
+unfoldable pub count-test : ℕ → Reader Test
+count-test b = do
+  n ← more-digits 2 (digit-value b)
+  c ← class-letter
+  gives (Test.so-many n c)
+
+-- "a quoted literal"
+unfoldable pub literal-test : ℕ → Reader Test
+literal-test q = quoted q >>= λ bs. gives (Test.literal bs)
+
+unfoldable pub test : Reader Test
+test = ahead is-digit count-test (choose ((ch "'", literal-test (ch "'")) ∷ (ch "\"", literal-test (ch "\"")) ∷ []))
+
+-- "one or more tests"
+unfoldable pub tests : Reader Pattern
+tests bs = closed-by (length bs) (ch ")") test bs
+
+-- "each in parentheses"
+unfoldable pub pattern : Reader Pattern
+pattern = this (ch "(") >> tests
+
+-- "one or more patterns, .. parted by semicolons"
+unfoldable pub pattern-list : Reader (List Pattern)
+pattern-list bs = parted (length bs) (ch ";") pattern bs
+
+unfoldable pub pattern-code : Reader Conversion
+pattern-code = pattern-list >>= λ ps. gives (Conversion.patterns ps)
+
 abbrev pub as-plain : Reader Plain → Reader Conversion
 as-plain r = r >>= λ p. gives (Conversion.plain p)
 
@@ -212,6 +259,7 @@ conversion =
     ∷ (ch "L", as-plain length-code)
     ∷ (ch "M", masking-code)
     ∷ (ch "D", date-code)
+    ∷ (ch "P", pattern-code)
     ∷ [])
 
 -- "1 to 3 digits, then nothing, `R` or `RR` (an attribute)"
@@ -285,13 +333,6 @@ operator-elm =
 
 unfoldable pub elm : Reader Elm
 elm = ahead is-digit attribute-elm operator-elm
-
--- one or more, parted by the byte c: each eats a byte, so `fuel` of the bytes' number is enough
-unfoldable pub parted : {A : Type 0} → ℕ → ℕ → Reader A → Reader (List A)
-parted zero c r = fails
-parted (suc fuel) c r = do
-  x ← r
-  ahead (eqb c) (λ _. parted fuel c r >>= λ xs. gives (x ∷ xs)) (gives (x ∷ []))
 
 unfoldable pub elms : Reader (List Elm)
 elms bs = parted (length bs) (ch ";") elm bs

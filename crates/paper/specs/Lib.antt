@@ -6,6 +6,7 @@ pub mod Records
 pub mod Numbers
 pub mod Codes
 pub mod Grammar
+pub mod Patterns
 pub mod Checking
 pub mod Texts
 pub mod Masks

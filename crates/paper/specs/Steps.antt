@@ -1,17 +1,17 @@
 -- Document 01, "What each code gives" (F) and "Steps": a step, its cost, and the run of one element.
 use Prim.Native.Nat.{ℕ, zero, suc, _+_, _*_}
-use mathlib.Core.Bool.{Bool, false}
 use mathlib.Core.List.{List, [], _∷_, _++_}
 use lib.ListN.{length, take, drop}
 use lib.Dec.{leb}
 use Rattle.paper.specs.Bytes.{Bytes, if_then_else_}
 use Rattle.paper.specs.Records.{Turn, path, reads}
 use Rattle.paper.specs.Numbers.{binary-gives, substring-gives}
-use Rattle.paper.specs.Codes.{Conversion, Repeat, Operand, Elm, Code}
-use Rattle.paper.specs.Checking.{shape, stacked}
+use Rattle.paper.specs.Codes.{Conversion, Repeat, Operand, Elm, Code, Kind}
+use Rattle.paper.specs.Checking.{conversion-kind, shape, stacked}
 use Rattle.paper.specs.Texts.{plain-gives}
 use Rattle.paper.specs.Masks.{mask-gives}
 use Rattle.paper.specs.Dates.{date-gives}
+use Rattle.paper.specs.Patterns.{patterns-give}
 use Rattle.paper.specs.Refusals.{
   Res,
   given,
@@ -52,6 +52,7 @@ unfoldable pub conversion-gives : Conversion → Bytes → Res Bytes
 conversion-gives (Conversion.plain p) e = plain-gives p e
 conversion-gives (Conversion.mask k) e = mask-gives k e
 conversion-gives (Conversion.date n s) e = date-gives n s e
+conversion-gives (Conversion.patterns ps) e = given (patterns-give ps e)
 
 -- "`n` loads (n,v,s), `nR` loads (n,1,s), `nRR` loads (n,1,1); attribute 0 is always the id"
 unfoldable pub load-path : ℕ → Repeat → ℕ → ℕ → List Turn
@@ -83,13 +84,21 @@ unfoldable pub bytes-in : List Bytes → ℕ
 bytes-in [] = 0
 bytes-in (x ∷ xs) = length x + bytes-in xs
 
--- "An attribute load costs 1 + record length + element length. Any other step costs 1 + the bytes it takes + the bytes it puts"
-unfoldable pub price : Bool → Bytes → List Bytes → List Bytes → ℕ
-price loads item taken put = 1 + (if loads then length item else bytes-in taken) + bytes-in put
+-- what a step is charged beside the bytes it puts and 1, on a record of this length, where it takes so many bytes:
+-- "1 + record length + element length", "1 + T x (element length + 1) + bytes put" (document 02, L1), "1 + the bytes it takes + the bytes it puts"
+unfoldable pub charged : Kind → ℕ → ℕ → ℕ
+charged Kind.loading size taken = size
+charged (Kind.testing t) size taken = t * (taken + 1)
+charged Kind.other size taken = taken
 
--- "1,025 + R" and "4,097": the most that a step can cost, where an entry has at most so many bytes and the record this length
-unfoldable pub step-ceiling : ℕ → ℕ → Bool → ℕ
-step-ceiling most size loads = if loads then 1 + most + size else 1 + 4 * most
+unfoldable pub price : Kind → Bytes → List Bytes → List Bytes → ℕ
+price kind item taken put = 1 + charged kind (length item) (bytes-in taken) + bytes-in put
+
+-- "1,025 + R", "T x 1,025 + 1,025" and "4,097": the most that a step can cost, where an entry has at most so many bytes and the record this length
+unfoldable pub step-ceiling : ℕ → ℕ → Kind → ℕ
+step-ceiling most size Kind.loading = 1 + most + size
+step-ceiling most size (Kind.testing t) = t * (1 + most) + (1 + most)
+step-ceiling most size Kind.other = 1 + 4 * most
 
 -- "An F code's answer is the top entry."
 unfoldable pub top-entry : List Bytes → Run Bytes
@@ -122,13 +131,13 @@ module _ (most : ℕ) where
   elm-step c e stack = do
     stacked e (length stack)
     put ← elm-puts c e stack
-    given (price (shape e .loads) (c .item) (take (shape e .takes) stack) put, put ++ drop (shape e .takes) stack)
+    given (price (shape e .kind) (c .item) (take (shape e .takes) stack) put, put ++ drop (shape e .takes) stack)
 
   -- one code other than F: its cost and what it gives
   unfoldable pub conversion-step : Setting → Conversion → Res (ℕ × Bytes)
   conversion-step c k = do
     put ← limited (conversion-gives k (c .previous))
-    given (price false (c .item) (c .previous ∷ []) (put ∷ []), put)
+    given (price (conversion-kind k) (c .item) (c .previous ∷ []) (put ∷ []), put)
 
   -- elms in turn, from a stack to the stack that they leave
   unfoldable pub elms-run : Setting → List Elm → List Bytes → Run (List Bytes)

@@ -88,6 +88,7 @@ typed-by (some (Code.function es)) text = refused not-in-grammar
 typed-by (some (Code.single (Conversion.plain p))) text = refused not-in-grammar
 typed-by (some (Code.single (Conversion.mask k))) text = refused not-in-grammar
 typed-by (some (Code.single (Conversion.date n s))) text = typed n s text
+typed-by (some (Code.single (Conversion.patterns ps))) text = refused not-in-grammar
 
 -- "A typed date: 5, then 6 if the string is not exactly one D code, then 12."
 unfoldable pub typed-date : Bytes → Bytes → Res Number

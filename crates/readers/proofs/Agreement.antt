@@ -16,6 +16,7 @@ use Rattle.paper.specs.Grammar as paper
 use Rattle.readers.specs.Places.{Placed, byte-at, after, follow, follow-or, gives, fails, only-if, ahead, choose-or, this, flag, digit, digit-ahead, more-digits, numeral, numeral-ahead, num}
 use Rattle.paper.proofs.Truths.{ltb-or}
 use Rattle.readers.proofs.Bytes.{ahead-of, byte-past, after-inside}
+use Rattle.readers.proofs.Taken.{some-one}
 
 -- what was read, f of it in the paper; `low` is where the reader must have come to, at least
 pub data Agree {A B : Type 0} (f : A → B) (s : Bytes) (low : ℕ) : Option (A × ℕ) → Option (B × Bytes) → Type 0 where
@@ -25,6 +26,19 @@ pub data Agree {A B : Type 0} (f : A → B) (s : Bytes) (low : ℕ) : Option (A 
 -- two readers agree from `low` on
 pub record Agrees {A B : Type 0} (f : A → B) (s : Bytes) (low : ℕ) (r : Placed A) (r′ : paper.Reader B) : Type 0 where
   pub at : (n : ℕ) → low ≤ n → n ≤ length s → Agree f s low (r s n) (r′ (drop n s))
+
+-- what is known of the paper's reading from the reading by place
+pub none-by : {A B : Type 0} {f : A → B} {s : Bytes} {low : ℕ} {x : Option (A × ℕ)} {y : Option (B × Bytes)} → Agree f s low x y → x ≡ none → y ≡ none
+none-by neither e = refl
+none-by (both a n l u) e = let z : _≡_ {A = ℕ} 0 1 = cc in absurd (omega arith)
+
+pub some-by : {A B : Type 0} {f : A → B} {s : Bytes} {low : ℕ} {x : Option (A × ℕ)} {y : Option (B × Bytes)} (a : A) (n : ℕ) → Agree f s low x y → x ≡ some (a, n)
+    → (y ≡ some (f a, drop n s)) × (low ≤ n) × (n ≤ length s)
+some-by a n neither e = let z : _≡_ {A = ℕ} 0 1 = cc in absurd (omega arith)
+some-by {A} {B} {f} {s} a n (both b m l u) e =
+    let p : _≡_ {A = A × ℕ} (b, m) (a, n) = some-one refl e in
+    let q : m ≡ n = ap (λ r. r .1) p in
+    (ap (λ (r : A × ℕ). some (f (r .0), drop (r .1) s)) p, omega arith, omega arith)
 
 -- the bytes that name a reader, and the readers
 pub data Options {A B : Type 0} (f : A → B) (s : Bytes) (low : ℕ) : List (ℕ × Placed A) → List (ℕ × paper.Reader B) → Type 0 where

@@ -1,8 +1,9 @@
 -- Each line of the grammar of codes other than F, by place, agrees with the paper's line.
-use Prim.Native.Nat.{ℕ, suc, _≤_}
-use mathlib.Core.Path.{refl}
+use Prim.Native.Nat.{ℕ, suc, _≤_, _-_}
+use mathlib.Core.Path.{_≡_, refl, subst}
 use mathlib.Core.Bool.{Bool, true, false}
-use mathlib.Core.Option.{Option}
+use mathlib.Core.List.{List}
+use mathlib.Core.Option.{Option, none, some}
 use lib.ListN.{length, drop}
 use lib.Dec.{ltb}
 use native.Mathlib.Omega.{arith}
@@ -10,7 +11,8 @@ use Rattle.paper.specs.Bytes.{Bytes, within, is-digit, digit-value}
 use Rattle.paper.specs.Sizes.{is-mark}
 use Rattle.paper.specs.Grammar as paper
 use Rattle.paper.specs.Codes as codes
-use Rattle.codes.specs.Meaning.{credit-of, fill-of, mask-of, plain-of, separator-of, conversion-of}
+use Rattle.paper.specs.Patterns.{tests-in}
+use Rattle.codes.specs.Meaning.{credit-of, fill-of, mask-of, plain-of, separator-of, patterns-at, conversion-of}
 use Rattle.codes.specs.declared.Credit.{Credit}
 use Rattle.codes.specs.declared.Fill.{Fill}
 use Rattle.codes.specs.declared.Plain.{Plain}
@@ -19,6 +21,7 @@ use Rattle.codes.specs.declared.Conversion.{Conversion}
 use Rattle.readers.specs.Places.{Placed, fails}
 use Rattle.readers.specs.Reading as place
 use Rattle.readers.proofs.Agreement.{Agree, neither, both, Agrees, no-more, option, gives-agrees, fails-agrees, chooses, aheads, digit-aheads, numeral-aheads, follow-agrees, choose-agrees, num-agrees, only-if-agrees, this-agrees, flag-agrees}
+use Rattle.readers.proofs.PatternReads.{patterns-end}
 
 plained-agrees : {s : Bytes} {low : ℕ} {x : Option (Plain × ℕ)} {y : Option (codes.Plain × Bytes)} → Agree plain-of s low x y → Agree (conversion-of s) s low (place.plained x) (paper.follow y (λ p. paper.gives (codes.plain p)))
 unfolding conversion-of
@@ -130,6 +133,22 @@ module _ {s : Bytes} {low : ℕ} where
   unfolding place.date-code paper.date-code
   date-code-agrees = aheads (within 48 52) refl (λ b. date-after-agrees (digit-value b)) (date-after-agrees 4)
 
+  -- `P` and its patterns
+  pattern-code-agrees : Agrees (conversion-of s) s low place.pattern-code paper.pattern-code
+  unfolding place.pattern-code paper.pattern-code conversion-of patterns-at
+  pattern-code-agrees = record { at = λ n l u. go n l (paper.pattern-list (drop n s)) refl }
+    where
+      go : (at : ℕ) → low ≤ at → (o : Option (List codes.Pattern × Bytes)) → paper.pattern-list (drop at s) ≡ o
+          → Agree (conversion-of s) s low (place.patterned s at o) (paper.follow o (λ ps. paper.gives (codes.patterns ps)))
+      go at l none e = neither
+      go at l (some r) e =
+          let n = length s - length (r .1) in
+          let w = patterns-end s at e in
+          let same : codes.patterns (patterns-at s at) ≡ codes.patterns (r .0) = rw e in
+          let read : _≡_ {A = codes.Conversion × Bytes} (codes.patterns (patterns-at s at), drop n s) (codes.patterns (r .0), r .1) = cc (w .left) in
+          subst (λ y. Agree (conversion-of s) s low (some (Conversion.Patterns at (tests-in (r .0)), n)) (some y)) read
+          (both (Conversion.Patterns at (tests-in (r .0))) n (omega arith) (omega arith))
+
   as-plain-agrees : {r : Placed Plain} {r′ : paper.Reader codes.Plain} → Agrees plain-of s low r r′ → Agrees (conversion-of s) s low (place.as-plain r) (paper.as-plain r′)
   as-plain-agrees e = record { at = λ n l u. plained-agrees (e .at n l u) }
 
@@ -153,7 +172,8 @@ module _ {s : Bytes} {low : ℕ} where
       (option (as-plain-agrees extract-code-agrees)
       (option (as-plain-agrees length-code-agrees)
       (option masking-code-agrees
-      (option date-code-agrees no-more)))))
+      (option date-code-agrees
+      (option pattern-code-agrees no-more))))))
       neither
 
   pub conversion-agrees : Agrees (conversion-of s) s low place.conversion paper.conversion

@@ -4,11 +4,15 @@ use mathlib.Core.Path.{_≡_, refl, sym, ap, _∙_}
 use mathlib.Core.Option.{Option, none, some}
 use Rattle.codes.specs.declared.Fill.{Fill}
 use Rattle.codes.specs.declared.Plain.{Plain}
+use Rattle.codes.specs.declared.Test.{Test}
 use Rattle.codes.specs.declared.Conversion.{Conversion}
 use Rattle.readers.specs.Reading.{plained}
-use Rattle.readers.specs.Answers.{num-read, fill-read, conversion-read, num-refusal, fill-refusal, conversion-refusal}
+use Rattle.readers.specs.Answers.{num-read, quoted-read, fill-read, test-read, conversion-read}
+use Rattle.readers.specs.Answers.{num-refusal, quoted-refusal, fill-refusal, test-refusal, conversion-refusal}
 use Rattle.readers.specs.declared.ReadNum.{ReadNum}
+use Rattle.readers.specs.declared.ReadQuoted.{ReadQuoted}
 use Rattle.readers.specs.declared.ReadFill.{ReadFill}
+use Rattle.readers.specs.declared.ReadTest.{ReadTest}
 use Rattle.readers.specs.declared.ReadConversion.{ReadConversion}
 
 abbrev pub answered : {A R : Type 0} → (A → R) → (ℕ → R) → Option A → R
@@ -68,6 +72,18 @@ num-shown (some x) = refl
 abbrev pub nums : Answer (ℕ × ℕ) ReadNum
 nums = record { thing = λ x. ReadNum.Num (x .0) (x .1); refused = ReadNum.Refused; inside = num-in; number = num-refusal; read = num-read; shown = num-shown; inside-thing = λ x. refl; inside-refused = λ n. refl; number-refused = λ n. refl }
 
+abbrev pub quoted-in : ReadQuoted → Option (ℕ × ℕ)
+quoted-in (ReadQuoted.Refused n) = none
+quoted-in (ReadQuoted.Quoted len next) = some (len, next)
+
+pub quoted-shown : (o : Option (ℕ × ℕ)) → quoted-read o ≡ answered (λ (x : ℕ × ℕ). ReadQuoted.Quoted (x .0) (x .1)) ReadQuoted.Refused o
+unfolding quoted-read
+quoted-shown none = refl
+quoted-shown (some x) = refl
+
+abbrev pub quotes : Answer (ℕ × ℕ) ReadQuoted
+quotes = record { thing = λ x. ReadQuoted.Quoted (x .0) (x .1); refused = ReadQuoted.Refused; inside = quoted-in; number = quoted-refusal; read = quoted-read; shown = quoted-shown; inside-thing = λ x. refl; inside-refused = λ n. refl; number-refused = λ n. refl }
+
 abbrev pub fill-in : ReadFill → Option (Fill × ℕ)
 fill-in (ReadFill.Refused n) = none
 fill-in (ReadFill.Fill fill next) = some (fill, next)
@@ -79,6 +95,18 @@ fill-shown (some x) = refl
 
 abbrev pub fills : Answer (Fill × ℕ) ReadFill
 fills = record { thing = λ x. ReadFill.Fill (x .0) (x .1); refused = ReadFill.Refused; inside = fill-in; number = fill-refusal; read = fill-read; shown = fill-shown; inside-thing = λ x. refl; inside-refused = λ n. refl; number-refused = λ n. refl }
+
+abbrev pub test-in : ReadTest → Option (Test × ℕ)
+test-in (ReadTest.Refused n) = none
+test-in (ReadTest.Test test next) = some (test, next)
+
+pub test-shown : (o : Option (Test × ℕ)) → test-read o ≡ answered (λ (x : Test × ℕ). ReadTest.Test (x .0) (x .1)) ReadTest.Refused o
+unfolding test-read
+test-shown none = refl
+test-shown (some x) = refl
+
+abbrev pub tests : Answer (Test × ℕ) ReadTest
+tests = record { thing = λ x. ReadTest.Test (x .0) (x .1); refused = ReadTest.Refused; inside = test-in; number = test-refusal; read = test-read; shown = test-shown; inside-thing = λ x. refl; inside-refused = λ n. refl; number-refused = λ n. refl }
 
 abbrev pub conversion-in : ReadConversion → Option (Conversion × ℕ)
 conversion-in (ReadConversion.Refused n) = none

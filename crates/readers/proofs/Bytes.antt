@@ -1,6 +1,7 @@
 -- The byte at a place and the place after it.
 use Prim.Native.Nat.{ℕ, zero, suc, _<_, _≤_, _+_}
 use mathlib.Core.Path.{_≡_, refl, sym, ap, _∙_}
+use mathlib.Core.Logic.{⊎-elim}
 use mathlib.Core.Bool.{Bool, true, false}
 use mathlib.Core.List.{[], _∷_}
 use lib.ListN.{length, getD, drop, length-drop, List·getD-eq-default}
@@ -10,6 +11,7 @@ use native.Mathlib.Numerals.{add-one}
 use native.Mathlib.Omega.{arith}
 use borrow.Author.Tests.{lt-ltb, le-ltb, eq-eqb, ne-eqb, eqb-true, eqb-false}
 use Rattle.paper.specs.Bytes.{Bytes}
+use Rattle.paper.proofs.Truths.{ltb-or}
 use Rattle.readers.specs.Places.{byte-at, after, Peeked}
 
 getD-inside : (s : Bytes) (at d e : ℕ) → at < length s → getD s at d ≡ getD s at e
@@ -45,6 +47,15 @@ peeked-inside s at h = record { stands = byte-inside s at 0 h; leads = after-ins
 
 pub peeked-past : (s : Bytes) (at : ℕ) → length s ≤ at → Peeked s at 255 at
 peeked-past s at h = record { stands = byte-past s at h; leads = after-past s at h }
+
+pub peeked-drop : {s : Bytes} {at b n : ℕ} → at < length s → Peeked s at b n → drop at s ≡ b ∷ drop n s
+peeked-drop {s} {at} h p = rw (p .stands, p .leads) (ahead-of s at h)
+
+pub peeked-within : {s : Bytes} {at b n : ℕ} → at ≤ length s → Peeked s at b n → (at ≤ n) × (n ≤ length s)
+peeked-within {s} {at} h p =
+    ⊎-elim (λ l. (omega (arith, p .leads, after-inside s at l), omega (arith, p .leads, after-inside s at l)))
+    (λ u. (omega (arith, p .leads, after-past s at u), omega (arith, p .leads, after-past s at u)))
+    (ltb-or at (length s))
 
 -- all of the bytes: none are left, or the place is their end
 pub left-none : (s : Bytes) (n : ℕ) → n ≤ length s → eqb (length (drop n s)) 0 ≡ eqb n (length s)

@@ -4,5 +4,11 @@ pub mod Taken
 pub mod Separators
 pub mod Lines
 pub mod Agreement
+pub mod Quotes
+pub mod Many
+pub mod Skimming
+pub mod PatternReads
 pub mod AgreementLines
+pub mod Ever
+pub mod Counted
 pub mod Settled

@@ -1,11 +1,11 @@
 -- The paper's readers (crates/paper/specs/Grammar.antt) by place: what stands at a place of the bytes and the place after it, or none.
 -- Past the end stands the segment mark, which no reader takes. proofs/Agreement.antt ties each to the paper's.
-use Prim.Native.Nat.{ℕ, zero, suc, _+_, _*_}
+use Prim.Native.Nat.{ℕ, zero, suc, _+_, _-_, _*_}
 use mathlib.Core.Path.{_≡_}
 use mathlib.Core.Bool.{Bool, true, false}
 use mathlib.Core.List.{List, [], _∷_}
 use mathlib.Core.Option.{Option, none, some}
-use lib.ListN.{length, getD}
+use lib.ListN.{length, getD, drop}
 use lib.Dec.{ltb, eqb}
 use Rattle.paper.specs.Bytes.{Bytes, if_then_else_, is-digit, digit-value}
 use Rattle.paper.specs.Sizes.{segment-mark}
@@ -88,3 +88,21 @@ num = numeral 3
 -- a numeral ahead: if none stands there, `other`
 abbrev pub numeral-ahead : {A : Type 0} → ℕ → (ℕ → Placed A) → Placed A → Placed A
 numeral-ahead j k other s at = follow-or (numeral j s at) k s (other s at)
+
+-- the place of the first byte q from `at` on, where these bytes begin
+unfoldable pub closing : ℕ → Bytes → ℕ → Option ℕ
+closing q [] at = none
+closing q (b ∷ bs) at = if eqb b q then some at else closing q bs (suc at)
+
+-- the bytes from `start` up to the quote's place: how many, and the place after the quote
+abbrev pub enclosed : ℕ → Option ℕ → Option (ℕ × ℕ)
+enclosed start none = none
+enclosed start (some close) = some (close - start, close + 1)
+
+-- "zero or more bytes .. without that quote", up to the quote
+unfoldable pub quoted : ℕ → Placed ℕ
+quoted q s at = enclosed at (closing q (drop at s) at)
+
+-- what is made of a literal's place and length
+abbrev pub literal : {A : Type 0} → (ℕ → ℕ → A) → ℕ → Placed A
+literal make q s at = follow (quoted q s at) (λ len. gives (make at len)) s

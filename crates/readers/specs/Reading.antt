@@ -1,18 +1,24 @@
 -- Document 01, "The code grammar", by place: the codes other than F, the lines of crates/paper/specs/Grammar.antt in their order, as the enums of `codes`.
-use Prim.Native.Nat.{ℕ}
+use Prim.Native.Nat.{ℕ, _-_}
 use mathlib.Core.Bool.{Bool, true, false, not, _||_}
-use mathlib.Core.List.{[], _∷_}
+use mathlib.Core.List.{List, [], _∷_}
 use mathlib.Core.Option.{Option, none, some}
+use lib.ListN.{length, drop}
 use lib.Dec.{ltb}
-use Rattle.paper.specs.Bytes.{ch, within, is-digit, digit-value}
+use Rattle.paper.specs.Bytes.{Bytes, ch, within, is-digit, digit-value}
 use Rattle.paper.specs.Sizes.{is-mark}
-use Rattle.paper.specs.Grammar.{is-separator}
+use Rattle.paper.specs.Codes as codes
+use Rattle.paper.specs.Grammar.{is-separator, pattern-list}
+use Rattle.paper.specs.Patterns.{tests-in}
 use Rattle.codes.specs.declared.Credit.{Credit}
 use Rattle.codes.specs.declared.Fill.{Fill}
 use Rattle.codes.specs.declared.Plain.{Plain}
 use Rattle.codes.specs.declared.Separator.{Separator}
+use Rattle.codes.specs.declared.Class.{Class}
+use Rattle.codes.specs.declared.Test.{Test}
 use Rattle.codes.specs.declared.Conversion.{Conversion}
-use Rattle.readers.specs.Places.{Placed, _>>=_, _>>_, gives, fails, only-if, ahead, digit-ahead, choose, choose-or, this, flag, numeral-ahead, num}
+use Rattle.readers.specs.Places.{Placed, _>>=_, _>>_, gives, fails, only-if, ahead, digit-ahead, choose, choose-or, this, flag}
+use Rattle.readers.specs.Places.{numeral-ahead, num, literal}
 
 -- `G{num}x num`, "x any byte not a digit or mark"
 unfoldable pub separates : ℕ → Bool
@@ -129,6 +135,38 @@ date-after n =
 unfoldable pub date-code : Placed Conversion
 date-code = ahead (within (ch "0") (ch "4")) (λ b. date-after (digit-value b)) (date-after 4)
 
+-- Document 02, L1: `N`, `A` or `X`
+unfoldable pub class-letter : Placed Class
+class-letter = choose ((ch "N", gives Class.Numeric) ∷ (ch "A", gives Class.Alpha) ∷ (ch "X", gives Class.Character) ∷ [])
+
+-- "`nN`, `nA`, `nX`", after n
+unfoldable pub count-test : ℕ → Placed Test
+count-test n = class-letter >>= λ c. gives (Test.SoMany n c)
+
+-- "a quoted literal"
+unfoldable pub literal-test : ℕ → Placed Test
+literal-test = literal Test.Literal
+
+unfoldable pub quoted-test : Placed Test
+quoted-test = choose ((ch "'", literal-test (ch "'")) ∷ (ch "\"", literal-test (ch "\"")) ∷ [])
+
+-- "n of 1 to 3 digits"
+unfoldable pub test : Placed Test
+test = numeral-ahead 2 count-test quoted-test
+
+-- Patterns are skimmed and not kept: the size of what the paper reads, and the place after it.
+unfoldable pub skimmed : {A : Type 0} → (A → ℕ) → Bytes → Option (A × Bytes) → Option (ℕ × ℕ)
+skimmed size s none = none
+skimmed size s (some r) = some (size (r .0), length s - length (r .1))
+
+-- "`P` and one or more patterns": where they begin, and the tests in all of them
+abbrev pub patterned : Bytes → ℕ → Option (List codes.Pattern × Bytes) → Option (Conversion × ℕ)
+patterned s at none = none
+patterned s at (some r) = some (Conversion.Patterns at (tests-in (r .0)), length s - length (r .1))
+
+unfoldable pub pattern-code : Placed Conversion
+pattern-code s at = patterned s at (pattern-list (drop at s))
+
 abbrev pub plained : Option (Plain × ℕ) → Option (Conversion × ℕ)
 plained none = none
 plained (some r) = some (Conversion.Plain (r .0), r .1)
@@ -156,4 +194,5 @@ conversion =
     ∷ (ch "L", as-plain length-code)
     ∷ (ch "M", masking-code)
     ∷ (ch "D", date-code)
+    ∷ (ch "P", pattern-code)
     ∷ [])

@@ -1,6 +1,7 @@
 // Document 01, "The code grammar": D, and the codes other than F by their letters.
 use crate::ReadConversion;
 use crate::masking::mask_code;
+use crate::patterns::pattern_code;
 use crate::places::peek;
 use crate::plains::character_code;
 use crate::plains::extract_code;
@@ -109,6 +110,7 @@ pub fn conversion(code: &[u8], at: usize) -> ReadConversion
         b'L' => length_code(code, ahead.next),
         b'M' => masking_code(code, ahead.next),
         b'D' => date_code(code, ahead.next),
+        b'P' => pattern_code(code, ahead.next),
         _ => ReadConversion::Refused(paper::refusal::NOT_IN_GRAMMAR),
     }
 }

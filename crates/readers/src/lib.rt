@@ -3,14 +3,16 @@
 // Every contract is an equality with a definition that proofs/ tie to crates/paper.
 pub mod conversions;
 mod masking;
+pub mod patterns;
 pub mod places;
 mod plains;
 
 use codes::Conversion;
 use codes::Credit;
 use codes::Fill;
+use codes::Test;
 ghost use mathlib.Core.Path.{_≡_};
-ghost use Rattle.readers.specs.Answers.{num-refusal, fill-refusal, conversion-refusal};
+ghost use Rattle.readers.specs.Answers.{num-refusal, quoted-refusal, fill-refusal, test-refusal, conversion-refusal};
 
 // The byte at a place, and the place after it.
 pub struct Ahead {
@@ -61,6 +63,24 @@ impl ReadNum {
     }
 }
 
+// How many bytes stand before the closing quote, and the place after it.
+pub enum ReadQuoted {
+    Quoted { len: usize, next: usize },
+    Refused(u64),
+}
+
+impl ReadQuoted {
+    // the number to pass up where this is a refusal
+    pub fn refusal(self) -> u64
+        ensures { λ r. ⌜ r ≡ quoted-refusal self ⌝ }
+    {
+        match self {
+            ReadQuoted::Quoted { len: _, next: _ } => 0,
+            ReadQuoted::Refused(number) => number,
+        }
+    }
+}
+
 pub(crate) enum ReadFill {
     Fill { fill: Fill, next: usize },
     Refused(u64),
@@ -74,6 +94,23 @@ impl ReadFill {
         match self {
             ReadFill::Fill { fill: _, next: _ } => 0,
             ReadFill::Refused(number) => number,
+        }
+    }
+}
+
+pub enum ReadTest {
+    Test { test: Test, next: usize },
+    Refused(u64),
+}
+
+impl ReadTest {
+    // the number to pass up where this is a refusal
+    pub fn refusal(self) -> u64
+        ensures { λ r. ⌜ r ≡ test-refusal self ⌝ }
+    {
+        match self {
+            ReadTest::Test { test: _, next: _ } => 0,
+            ReadTest::Refused(number) => number,
         }
     }
 }

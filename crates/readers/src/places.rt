@@ -1,14 +1,15 @@
-// One byte ahead, and the numerals.
+// One byte ahead, the numerals, and a literal's closing quote.
 use crate::Ahead;
 use crate::Digits;
 use crate::Flag;
 use crate::ReadNum;
+use crate::ReadQuoted;
 use paper::Mark;
 ghost use mathlib.Core.Path.{_≡_};
 ghost use mathlib.Core.Option.{some};
 ghost use Prim.Native.Nat.{_≤_};
-ghost use Rattle.readers.specs.Places.{Peeked, flag, digit, more-digits, numeral, num};
-ghost use Rattle.readers.specs.Answers.{num-read};
+ghost use Rattle.readers.specs.Places.{Peeked, flag, digit, more-digits, numeral, num, quoted};
+ghost use Rattle.readers.specs.Answers.{num-read, quoted-read};
 
 // Past the end stands the segment mark, which no reader takes: so every reader stops there.
 pub fn peek(code: &[u8], at: usize) -> Ahead
@@ -98,4 +99,21 @@ pub(crate) fn num(code: &[u8], at: usize) -> ReadNum
     ensures { λ r. ⌜ r ≡ num-read (num (now (code .entry)) at) ⌝ }
 {
     numeral(code, at, 3)
+}
+
+// "zero or more bytes in `'` or `"`, without that quote": how many, and the place after the quote
+pub fn quoted(code: &[u8], from: usize, quote: u8) -> ReadQuoted
+    ensures { λ r. ⌜ r ≡ quoted-read (quoted quote (now (code .entry)) from) ⌝ }
+{
+    let mut at = from;
+    while at < code.len() {
+        if code[at] == quote {
+            return ReadQuoted::Quoted {
+                len: at - from,
+                next: at + 1,
+            };
+        }
+        at += 1;
+    }
+    ReadQuoted::Refused(paper::refusal::NOT_IN_GRAMMAR)
 }

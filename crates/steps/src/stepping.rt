@@ -13,7 +13,9 @@ ghost use lib.ListN.{length};
 ghost use Rattle.paper.specs.Sizes.{entry-most, record-most, stack-most};
 ghost use Rattle.paper.specs.Refusals.{given};
 ghost use Rattle.paper.specs.Checking.{Room};
+ghost use Rattle.paper.specs.Steps.{charged};
 ghost use Rattle.codes.specs.Meaning.{operator-of, conversion-of, elm-of};
+ghost use Rattle.codes.specs.Counting.{kind-of};
 ghost use Rattle.stack.specs.Slots.{entry-at, Slotted, Lent};
 ghost use Rattle.stack.specs.Charging.{Puts, taken-one, taken-two, taken-three};
 ghost use Rattle.giving.specs.Bounds.{Conversion-within};
@@ -99,12 +101,12 @@ fn convert(
     k: usize,
 ) -> Step
     requires { ⌜ Slotted (now scratch) (now lens) × (k < stack-most) × Conversion-within (now code) conversion × (entry-most ≤ length (now work)) ⌝ }
-    ensures { λ r. ⌜ Puts left (taken-one (now (scratch .entry)) (now (lens .entry)) k)
+    ensures { λ r. ⌜ Puts left (charged (kind-of conversion) 0 (taken-one (now (scratch .entry)) (now (lens .entry)) k))
         (converted-on (conversion-of (now (code .entry)) conversion) (now (scratch .entry)) (now (lens .entry)) k) k r
         (now (scratch .entry)) (now (lens .entry)) (now (scratch .exit)) (now (lens .exit)) ⌝ }
 {
     let top = slots::entry(&*scratch, &*lens, k);
-    let taken = top.len() as u64;
+    let taken = giving::charged(conversion, top.len() as u64);
     let answer = giving::give(conversion, code, top, work);
     charging::charge_given(answer, taken, left, &*work, scratch, lens, k)
 }

@@ -12,7 +12,7 @@ use Rattle.paper.specs.Bytes.{Bytes, buffer}
 use Rattle.paper.specs.Sizes.{entry-most}
 use Rattle.paper.specs.Refusals.{Res, given, refused, refusal-of, answer-of, over-budget, stack-fault, mark-in-element, last-refusal}
 use Rattle.paper.specs.Records.{path, apart, replace}
-use Rattle.paper.specs.Checking.{check, report}
+use Rattle.paper.specs.Checking.{Counts, check, report}
 use Rattle.paper.specs.Converting.{Outcome, elements, ready, convert, convert-freely, output-after, scratch-after, counted-ceiling}
 use Rattle.paper.proofs.Predicates.{All}
 use Rattle.paper.proofs.Budget.{Completed, defined-costs, converting-within-budget, converting-over-budget}
@@ -121,11 +121,16 @@ module _ (κs : Lfts 5) (args : _) (r : _) (exits : _) (post : convert-call.Post
       go (refused n) e = absurd (omega (arith, refusal-returned n e .0, refusal-returned n e .1))
 
   -- beside what `sundewfrill_check` gave on the same code
-  module _ (κs′ : Lfts 4) (args′ : _) (r′ : _) (exits′ : _) (checked : check-call.Post κs′ args′ r′ exits′) (same : args′ .0 .now ≡ code) where
-    -- the count is never above the ceiling of its A and B
-    pub steps-at-most-ceiling : steps ≤ counted-ceiling (exits′ .1 .1 .0 .now) (exits′ .1 .1 .1 .0 .now) (length item) (length (elements item a v s))
+  module _ (κs′ : Lfts 6) (args′ : _) (r′ : _) (exits′ : _) (checked : check-call.Post κs′ args′ r′ exits′) (same : args′ .0 .now ≡ code) where
+    -- the count is never above the ceiling of its A, B, P and T
+    abbrev told-counts : Counts
+    told-counts = record { loads = exits′ .1 .1 .0 .now; others = exits′ .1 .1 .1 .0 .now; patterns = exits′ .1 .1 .1 .1 .0 .now; tests = exits′ .1 .1 .1 .1 .1 .0 .now }
+
+    pub steps-at-most-ceiling : steps ≤ counted-ceiling told-counts (length item) (length (elements item a v s))
     steps-at-most-ceiling =
-        rw (post .1 .0, checked .1 .1 .0, checked .1 .1 .1, same, ← ceiling-reported) (steps-within-ceiling item code a v s budget room scratch)
+        let most : convert item code a v s budget room scratch .steps ≤ counted-ceiling (report (check code) .steps) (length item) (length (elements item a v s)) =
+        rw (← ceiling-reported) (steps-within-ceiling item code a v s budget room scratch) in
+        rw (post .1 .0, checked .1 .1 .0, checked .1 .1 .1 .0, checked .1 .1 .1 .1 .0, checked .1 .1 .1 .1 .1, same) most
 
     accepted : r′ ≡ 0 → Accepts code
     accepted e = accepts code (sym (checked .0 ∙ ap (λ (b : Bytes). report (check b) .refusal) same) ∙ e)

@@ -25,14 +25,22 @@ replace-settled : (κs : Lfts 4) → (a : _) (r r′ : _) (e e′ : _) → repla
     × (e .1 .1 .0 .now ≡ e′ .1 .1 .0 .now)
 replace-settled κs a r r′ e e′ p q = (p .0 ∙ sym (q .0), p .1 .0 ∙ sym (q .1 .0), p .1 .1 ∙ sym (q .1 .1))
 
--- code number, A, B
-check-settled : (κs : Lfts 4) → (a : _) (r r′ : _) (e e′ : _) → check.Post κs a r e → check.Post κs a r′ e′
+-- code number, A, B, P, T
+check-settled : (κs : Lfts 6) → (a : _) (r r′ : _) (e e′ : _) → check.Post κs a r e → check.Post κs a r′ e′
     → (r ≡ r′)
     × (e .1 .0 .now ≡ e′ .1 .0 .now)
     × (e .1 .1 .0 .now ≡ e′ .1 .1 .0 .now)
     × (e .1 .1 .1 .0 .now ≡ e′ .1 .1 .1 .0 .now)
-check-settled κs a r r′ e e′ p q =
-    (p .0 ∙ sym (q .0), p .1 .0 ∙ sym (q .1 .0), p .1 .1 .0 ∙ sym (q .1 .1 .0), p .1 .1 .1 ∙ sym (q .1 .1 .1))
+    × (e .1 .1 .1 .1 .0 .now ≡ e′ .1 .1 .1 .1 .0 .now)
+    × (e .1 .1 .1 .1 .1 .0 .now ≡ e′ .1 .1 .1 .1 .1 .0 .now)
+check-settled κs a r r′ e e′ p q = (
+  p .0 ∙ sym (q .0),
+  p .1 .0 ∙ sym (q .1 .0),
+  p .1 .1 .0 ∙ sym (q .1 .1 .0),
+  p .1 .1 .1 .0 ∙ sym (q .1 .1 .1 .0),
+  p .1 .1 .1 .1 .0 ∙ sym (q .1 .1 .1 .1 .0),
+  p .1 .1 .1 .1 .1 ∙ sym (q .1 .1 .1 .1 .1),
+)
 
 -- ceiling
 ceiling-settled : (κs : Lfts 3) → (a : _) (r r′ : _) (e e′ : _) → ceiling.Post κs a r e → ceiling.Post κs a r′ e′

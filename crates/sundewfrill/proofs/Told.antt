@@ -57,15 +57,24 @@ replaced-told r e h =
     (ap (λ (x : Replacing). x .number) q, (ap (λ (x : Replacing). x .length) q, e .1))
 
 pub checked-told : (v : Verdict) {p : Report} {t : Checking} → report-in v ≡ p → t ≡ checking-in v
-    → (t .number ≡ p .refusal) × ((t .code ≡ p .code-number) × ((t .loads ≡ p .loads) × (t .others ≡ p .others)))
+    → (t .number ≡ p .refusal)
+    × ((t .code ≡ p .code-number)
+    × ((t .loads ≡ p .steps .loads)
+    × ((t .others ≡ p .steps .others) × ((t .patterns ≡ p .steps .patterns) × (t .tests ≡ p .steps .tests)))))
 unfolding checking-in
 checked-told v e h = (
   ap (λ (x : Checking). x .number) h ∙ ap (λ (x : Report). x .refusal) e,
   (
     ap (λ (x : Checking). x .code) h ∙ ap (λ (x : Report). x .code-number) e,
     (
-      ap (λ (x : Checking). x .loads) h ∙ ap (λ (x : Report). x .loads) e,
-      ap (λ (x : Checking). x .others) h ∙ ap (λ (x : Report). x .others) e,
+      ap (λ (x : Checking). x .loads) h ∙ ap (λ (x : Report). x .steps .loads) e,
+      (
+        ap (λ (x : Checking). x .others) h ∙ ap (λ (x : Report). x .steps .others) e,
+        (
+          ap (λ (x : Checking). x .patterns) h ∙ ap (λ (x : Report). x .steps .patterns) e,
+          ap (λ (x : Checking). x .tests) h ∙ ap (λ (x : Report). x .steps .tests) e,
+        ),
+      ),
     ),
   ),
 )

@@ -66,7 +66,14 @@ replacing-in g = record { number = refusal-in g; length = length-in g }
 
 unfoldable pub checking-in : Verdict → Checking
 checking-in v =
-    record { number = report-in v .refusal; code = report-in v .code-number; loads = report-in v .loads; others = report-in v .others }
+    record {
+      number = report-in v .refusal;
+      code = report-in v .code-number;
+      loads = report-in v .steps .loads;
+      others = report-in v .steps .others;
+      patterns = report-in v .steps .patterns;
+      tests = report-in v .steps .tests;
+    }
 
 unfoldable pub capping-in : Bound → Capping
 capping-in (Bound.Most n) = record { number = 0; ceiling = n }

@@ -48,6 +48,8 @@ struct Checking {
     code: u64,
     loads: u64,
     others: u64,
+    patterns: u64,
+    tests: u64,
 }
 
 // What the ceiling gives, in numbers.
@@ -102,7 +104,7 @@ fn of_given(given: Given) -> Replacing
     }
 }
 
-// "the first bad code, 6 or 7, with that code's number from 1; accepted, it gives A and B"
+// "the first bad code, 6 or 7, with that code's number from 1; accepted, it gives A and B", and P and T with them
 fn of_verdict(verdict: Verdict) -> Checking
     ensures { λ r. ⌜ r ≡ checking-in verdict ⌝ }
 {
@@ -112,12 +114,16 @@ fn of_verdict(verdict: Verdict) -> Checking
             code: 0,
             loads: counts.loads,
             others: counts.others,
+            patterns: counts.patterns,
+            tests: counts.tests,
         },
         Verdict::Refused { number, code } => Checking {
             number,
             code,
             loads: 0,
             others: 0,
+            patterns: 0,
+            tests: 0,
         },
     }
 }
@@ -193,23 +199,29 @@ pub extern "C" fn sundewfrill_replace(
     told.number
 }
 
-// "Checking: 5 (with code number 0), then the first bad code"
+// "Checking: 5 (with code number 0), then the first bad code"; of what is accepted A, B, P and T
 #[no_mangle]
 pub extern "C" fn sundewfrill_check(
     code: &[u8],
     code_number: &mut u64,
     loads: &mut u64,
     others: &mut u64,
+    patterns: &mut u64,
+    tests: &mut u64,
 ) -> u64
     ensures { λ r. ⌜ r ≡ report (check (now (code .entry))) .refusal ⌝ }
     ensures { λ _. ⌜ now («code_number» .exit) ≡ report (check (now (code .entry))) .code-number ⌝ }
-    ensures { λ _. ⌜ now (loads .exit) ≡ report (check (now (code .entry))) .loads ⌝ }
-    ensures { λ _. ⌜ now (others .exit) ≡ report (check (now (code .entry))) .others ⌝ }
+    ensures { λ _. ⌜ now (loads .exit) ≡ report (check (now (code .entry))) .steps .loads ⌝ }
+    ensures { λ _. ⌜ now (others .exit) ≡ report (check (now (code .entry))) .steps .others ⌝ }
+    ensures { λ _. ⌜ now (patterns .exit) ≡ report (check (now (code .entry))) .steps .patterns ⌝ }
+    ensures { λ _. ⌜ now (tests .exit) ≡ report (check (now (code .entry))) .steps .tests ⌝ }
 {
     let told = of_verdict(judging::check(code));
     *code_number = told.code;
     *loads = told.loads;
     *others = told.others;
+    *patterns = told.patterns;
+    *tests = told.tests;
     told.number
 }
 

@@ -21,6 +21,9 @@ fn typed_by(conversion: Conversion, text: &[u8]) -> TypedDay
         Conversion::Plain(_) => TypedDay::Refused(paper::refusal::NOT_IN_GRAMMAR),
         Conversion::Mask(_) => TypedDay::Refused(paper::refusal::NOT_IN_GRAMMAR),
         Conversion::Date { digits, separator } => typed_date_by(text, digits, separator),
+        Conversion::Patterns { start: _, tests: _ } => TypedDay::Refused(
+            paper::refusal::NOT_IN_GRAMMAR,
+        ),
     }
 }
 

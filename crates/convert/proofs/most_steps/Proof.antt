@@ -3,7 +3,7 @@ use mathlib.Core.Path.{sym}
 use native.Mathlib.Omega.{arith}
 use borrow.Author.Needs.{needs}
 use Rattle.paper.proofs.Ceiling.{ceiling-read}
-use Rattle.convert.proofs.Counting.{loads-fit, others-fit, ceiling-fits}
+use Rattle.convert.proofs.Counting.{loads-fit, counted-fit, ceiling-fits}
 use Rattle.convert.proofs.most_steps.Statement.{statement}
 use Rattle.convert.proofs.most_steps.Tie as tie
 
@@ -11,9 +11,13 @@ pub most-steps-spec : {M : Type 1} → statement M
 most-steps-spec =
     tie.close
     (tie.spec
-    (λ c. search needs)
-    (λ c. omega (arith, loads-fit (c .before .pre)))
-    (λ c. omega (arith, others-fit (c .before .before .pre)))
-    (λ c. omega (arith, loads-fit (c .before .before .pre), others-fit (c .before .before .pre)))
-    (λ c. omega (arith, ceiling-fits (c .before .before .pre)))
-    (λ c. sym (ceiling-read _ _ _ _)))
+    (λ c. omega (arith, counted-fit _ (c .before .pre)))
+    (λ c. omega (arith, counted-fit _ (c .before .before .pre)))
+    (λ c. omega (arith, counted-fit _ (c .before .before .pre)))
+    (λ c. omega (arith, c .before .before .pre .record-fits))
+    (λ c. omega (arith, loads-fit _ (c .before .before .before .pre)))
+    (λ c. omega (arith, counted-fit _ (c .before .before .before .before .pre)))
+    (λ c. omega (arith, loads-fit _ (c .before .before .before .before .pre), counted-fit _ (c .before .before .before .before .pre)))
+    (λ c. omega (arith, loads-fit _ (c .before .before .before .before .pre), counted-fit _ (c .before .before .before .before .pre)))
+    (λ c. omega (arith, ceiling-fits _ (c .before .before .before .before .pre)))
+    (λ c. sym (ceiling-read _ _ _)))

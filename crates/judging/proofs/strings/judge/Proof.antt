@@ -25,10 +25,10 @@ judge-spec =
     rw (w .1) (judged-bad _ (c .before .before .before .before .before .pre) (w .0)))
     (λ c. search needs)
     (λ c κs. let h = head-first _ _ (said (c .before .before .before) ∙ ap some (c .before .head2 .given .1)) in omega arith)
-    (λ c. search needs) (λ c κs. search needs)
+    (λ c. search needs) (λ c κs. search needs) (λ c κs. search needs)
     (λ c.
     let d = c .before .before .before .before in
     c .judge-elms .ensures ∙ judged-function _ (d .before .before .before .before .before .pre) (said d ∙ ap some (c .before .before .head2 .given .1)))
     (λ c.
-    let d = c .before .before .before in
-    judged-single _ (d .before .before .before .before .before .pre) (said d ∙ ap some (c .before .enum-told2 .given .1)) (c .one-step .ensures)))
+    let d = c .before .before .before .before .before in
+    judged-single _ (d .before .before .before .before .before .pre) (said d ∙ ap some (c .before .before .before .head3 .given .1)) (c .before .conversion-kind .ensures) (c .one-step .ensures)))

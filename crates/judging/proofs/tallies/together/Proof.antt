@@ -8,4 +8,4 @@ use Rattle.judging.proofs.tallies.together.Tie as tie
 
 pub together-spec : {M : Type 1} → statement M
 unfolding added together steps
-together-spec = tie.close (tie.spec (λ c. omega arith) (λ c. omega arith) (λ c. refl))
+together-spec = tie.close (tie.spec (λ c. omega arith) (λ c. omega arith) (λ c. omega arith) (λ c. omega arith) (λ c. refl))

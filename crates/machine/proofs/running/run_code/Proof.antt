@@ -24,12 +24,12 @@ function-requires : tie.Need-function-requires
 function-requires c κs =
     let start = c .before .before .before .before .before .before .before .before .before .before .before .before .before .before .before in
     let is = read-is heads (c .before .before .before .before .before .before .before .before .before .head .ensures) (c .before .before .before .before .before .before .before .read .given .1) ∙ ap some (c .before .before .before .before .head2 .given .1) in
-    (start .pre .0, omega (arith, head-first (now (start .args .code)) _ is), start .pre .1, function-code (now (start .args .code)) (start .pre .2) is .0)
+    (start .pre .0, omega (arith, head-first (now (start .args .code)) _ is), start .pre .1, function-code (now (start .args .code)) (start .pre .2) is .0, start .pre .3)
 
 single-requires : tie.Need-single-requires
 single-requires c κs =
     let start = c .before .before .before .before .before .before .before .before .before .before .before .before .before .before .before in
-    (start .pre .0 .slotted, start .pre .0 .work-fits, start .pre .1, single-within (now (start .args .code)) (read-is heads (c .before .before .before .before .before .before .before .before .before .head .ensures) (c .before .before .before .before .before .before .before .read .given .1) ∙ ap some (c .before .before .before .before .head3 .given .1)))
+    (start .pre .0 .slotted, start .pre .0 .work-fits, start .pre .1, single-within (now (start .args .code)) (start .pre .2) (start .pre .3) (read-is heads (c .before .before .before .before .before .before .before .before .before .head .ensures) (c .before .before .before .before .before .before .before .read .given .1) ∙ ap some (c .before .before .before .before .head3 .given .1)))
 
 returns-2 : tie.Need-returns-2
 returns-2 c =
@@ -44,7 +44,7 @@ returns-3 c =
     let start = c .before .before .before .before .before .before .before .before .before .before .before .before .before .before .before .before .before .before .before .before .before .before in
     let is = read-is heads (c .before .before .before .before .before .before .before .before .before .before .before .before .before .before .before .before .head .ensures) (c .before .before .before .before .before .before .before .before .before .before .before .before .before .before .read .given .1) ∙ ap some (c .before .before .before .before .before .before .before .before .before .before .before .head3 .given .1) in
     runs-as
-    (ap (λ (r : Run Bytes). metered (start .args .meter) r) (single-code (now (start .args .code)) (start .pre .2) is _))
+    (ap (λ (r : Run Bytes). metered (start .args .meter) r) (single-code (now (start .args .code)) (start .pre .2) (start .pre .3) is _))
     (c .before .before .before .before .before .before .single .ensures)
 
 pub run-code-spec : {M : Type 1} → statement M

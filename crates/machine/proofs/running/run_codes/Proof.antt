@@ -5,7 +5,7 @@ use denote.Ref.{now}
 use Rattle.paper.specs.Checking.{Checked}
 use Rattle.machine.specs.Runs.{codes-outcome}
 use Rattle.machine.proofs.Turns.{runs-as}
-use Rattle.machine.proofs.Parts.{no-codes, checked-parts}
+use Rattle.machine.proofs.Parts.{no-codes, checked-short, checked-parts}
 use Rattle.machine.proofs.running.run_codes.Statement.{statement}
 use Rattle.machine.proofs.running.run_codes.Tie as tie
 
@@ -16,7 +16,7 @@ run-planned-requires : tie.Need-run-planned-requires
 run-planned-requires c κs =
     let start = c .before .before .before .before .before .before .before .before .before in (
       (start .pre .0, start .pre .1, start .pre .3),
-      rw (checked-parts (now (start .args .string)) (start .pre .2) (c .before .before .before .if1 .left)) at (start .pre .2),
+      (rw (checked-parts (now (start .args .string)) (start .pre .2) (c .before .before .before .if1 .left)) at (start .pre .2), checked-short _ (start .pre .2)),
     )
 
 returns-2 : tie.Need-returns-2

@@ -35,7 +35,7 @@ abbrev μ-loop : tie.MeasureT-loop
 loop-holds : tie.Need-loop-holds Inv-loop μ-loop
 loop-holds c =
     let start = c .before .before .before .before .before in
-    (turn-first _ _ _ _ _ _ _ (start .pre .0) (start .pre .1) (start .pre .2) (start .pre .3), refl, refl, refl)
+    (turn-first _ _ _ _ _ _ _ (start .pre .0) (start .pre .1) (start .pre .2) (start .pre .3) (start .pre .4), refl, refl, refl)
 
 returns : tie.Need-returns Inv-loop μ-loop
 returns c = absurd (turn-not _ _ _ _ _ _ _ (c .before .before .before .before .loop .inv .0) (read-is elms (c .before .before .before .elm .ensures) (c .before .enum-told .given .1)))

@@ -4,7 +4,7 @@ use mathlib.Core.Path.{_≡_, refl, _∙_}
 use Prim.Native.Nat.{_-_}
 use native.Mathlib.Omega.{arith}
 use lib.ListN.{length}
-use Rattle.machine.proofs.Parts.{Part, part-first, part-ends, part-well, part-stops, part-last, part-more}
+use Rattle.machine.proofs.Parts.{Part, part-first, part-ends, part-well, part-short, part-stops, part-last, part-more}
 use Rattle.machine.proofs.running.run_parts.Statement.{statement}
 use Rattle.machine.proofs.running.run_parts.Tie as tie
 
@@ -21,7 +21,7 @@ abbrev μ-loop : tie.MeasureT-loop
 loop-holds : tie.Need-loop-holds Inv-loop μ-loop
 loop-holds c =
     let start = c .before .before .before .before .before in
-    (part-first _ _ _ _ _ _ (start .pre .0) (start .pre .1) (start .pre .2), refl, refl, refl)
+    (part-first _ _ _ _ _ _ (start .pre .0) (start .pre .1) (start .pre .2) (start .pre .3), refl, refl, refl)
 
 sub-code : tie.Need-sub-code Inv-loop μ-loop
 sub-code c = part-ends _ _ _ _ _ _ (c .before .loop .inv .0) (c .code-end .ensures) .0
@@ -35,7 +35,7 @@ part-code-end c = part-ends _ _ _ _ _ _ (c .before .loop .inv .0) (c .code-end .
 run-code-requires : tie.Need-run-code-requires Inv-loop μ-loop
 run-code-requires c κs =
     let part = c .before .before .before .before .before .loop .inv .0 in
-    (part .lent, part .counted, part-well _ _ _ _ _ _ part (c .before .before .before .before .code-end .ensures))
+    (part .lent, part .counted, part-well _ _ _ _ _ _ part (c .before .before .before .before .code-end .ensures), part-short _ _ _ _ _ _ part (c .before .before .before .before .code-end .ensures))
 
 returns : tie.Need-returns Inv-loop μ-loop
 returns c = part-stops _ _ _ _ _ _ (c .before .before .before .before .before .before .before .before .before .before .before .before .before .before .loop .inv .0) (c .before .before .before .before .before .before .before .before .before .before .before .before .before .code-end .ensures) (c .before .before .before .before .before .before .before .before .run-code .ensures) (c .enum-told .given .1)

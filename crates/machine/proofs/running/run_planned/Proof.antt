@@ -16,18 +16,18 @@ single-requires c κs =
       start .pre .0 .0 .slotted,
       start .pre .0 .0 .work-fits,
       start .pre .0 .1,
-      plan-within (now (start .args .string)) (start .pre .1) (sym (c .before .before .before .before .plan .given .1) ∙ start .pre .0 .2),
+      plan-within (now (start .args .string)) (start .pre .1 .0) (start .pre .1 .1) (sym (c .before .before .before .before .plan .given .1) ∙ start .pre .0 .2),
     )
 
 run-parts-requires : tie.Need-run-parts-requires
-run-parts-requires c κs = let start = c .before .before .before .before .before .before .before .before .before .before in (start .pre .0 .0, start .pre .0 .1, start .pre .1)
+run-parts-requires c κs = let start = c .before .before .before .before .before .before .before .before .before .before in (start .pre .0 .0, start .pre .0 .1, start .pre .1 .0, start .pre .1 .1)
 
 returns : tie.Need-returns
 returns c =
     let start = c .before .before .before .before .before .before .before .before .before .before .before .before .before .before .before .before .before .before in
     runs-as
     (ap (λ (r : Run Bytes). metered (start .args .meter) r)
-    (plan-run (now (start .args .string)) (start .pre .1) (sym (c .before .before .before .before .before .before .before .before .before .before .before .plan .given .1) ∙ start .pre .0 .2) _ _ _))
+    (plan-run (now (start .args .string)) (start .pre .1 .0) (start .pre .1 .1) (sym (c .before .before .before .before .before .before .before .before .before .before .before .plan .given .1) ∙ start .pre .0 .2) _ _ _))
     (c .before .before .before .before .before .before .single .ensures)
 
 pub run-planned-spec : {M : Type 1} → statement M

@@ -94,7 +94,7 @@ returns-6 c =
     let start = c .before .before .before .before .before .before .before .before .before .before .before .before .before .before .before .before .before .before in
     let told = c .before .before .before .before .before .before .before .before .before .before .before .elm3 .given .1 in
     let room = rw told at (start .pre .3) in
-    charges-as (convert-at _ _ _ _ _ (start .args .held) _ (start .pre .3) (omega arith) told) (c .before .before .before .before .before .before .convert .ensures)
+    charges-as (convert-at _ _ _ _ _ (start .args .held) _ (start .pre .3) (omega arith) told (convert-conversion (rw told at (start .pre .1)))) (c .before .before .before .before .before .before .convert .ensures)
 
 pub step-spec : {M : Type 1} → statement M
 unfolding elm-of shape

@@ -1,0 +1,4 @@
+pub mod Marking
+pub mod Testing
+pub mod Choosing
+pub mod Settled
