@@ -38,6 +38,8 @@ extern "C" {
         code_number: *mut u64,
         loads: *mut u64,
         others: *mut u64,
+        patterns: *mut u64,
+        tests: *mut u64,
     ) -> u64;
 
     fn sundewfrill_convert(
@@ -143,8 +145,10 @@ pub fn replace(record: &[u8], new: &[u8], at: Address, output: &mut [u8]) -> Rep
 
 /// Checks the code string `code`.
 pub fn check(code: &[u8]) -> Check {
-    let (mut code_number, mut loads, mut others) = (UNWRITTEN, UNWRITTEN, UNWRITTEN);
-    // SAFETY: the pair is a live slice that is only read; the three numbers are
+    let mut code_number = UNWRITTEN;
+    let (mut loads, mut others) = (UNWRITTEN, UNWRITTEN);
+    let (mut patterns, mut tests) = (UNWRITTEN, UNWRITTEN);
+    // SAFETY: the pair is a live slice that is only read; the five numbers are
     // live, distinct and ours alone during the call.
     let refusal = unsafe {
         sundewfrill_check(
@@ -153,6 +157,8 @@ pub fn check(code: &[u8]) -> Check {
             &mut code_number,
             &mut loads,
             &mut others,
+            &mut patterns,
+            &mut tests,
         )
     };
     Check {
@@ -160,6 +166,8 @@ pub fn check(code: &[u8]) -> Check {
         code_number,
         loads,
         others,
+        patterns,
+        tests,
     }
 }
 

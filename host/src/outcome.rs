@@ -55,8 +55,12 @@ pub struct Check {
     pub code_number: u64,
     /// A: how many attribute loads the string has.
     pub loads: u64,
-    /// B: how many other steps the string has.
+    /// B: how many other steps the string has, its P codes left out.
     pub others: u64,
+    /// P: how many P codes the string has, alone or in an F code's parentheses.
+    pub patterns: u64,
+    /// T: how many tests all its P codes have.
+    pub tests: u64,
 }
 
 /// The outcome of converting; the answer is in the output.

@@ -17,13 +17,18 @@ pub struct Part<'r> {
     pub range: Range<usize>,
 }
 
-/// How many steps a code string has: what its ceiling is made of.
+/// How many steps a code string has, and how many tests: what its ceiling is
+/// made of.
 #[derive(Clone, Copy, Debug, PartialEq, Eq)]
 pub struct StepCounts {
     /// A: the attribute loads.
     pub loads: u64,
-    /// B: all other steps.
+    /// B: the steps that are neither loads nor P codes.
     pub others: u64,
+    /// P: the P codes, alone or in an F code's parentheses.
+    pub patterns: u64,
+    /// T: the tests of all P codes.
+    pub tests: u64,
 }
 
 /// A code string was refused.
@@ -93,6 +98,15 @@ pub fn replace<'o>(
 
 /// Checks the code string `code` and counts its steps.
 ///
+/// ```
+/// use sundewfrill_host::{check, Refusal};
+///
+/// let counts = check(b"F;1;(P(1N);(2A));(L)").unwrap();
+/// assert_eq!((counts.loads, counts.others), (1, 1));
+/// assert_eq!((counts.patterns, counts.tests), (1, 2));
+/// assert_eq!(check(b"P(1N;2A)").unwrap_err().refusal, Refusal::NotInGrammar);
+/// ```
+///
 /// # Errors
 ///
 /// Refusal 5, or the first bad code with 6 or 7.
@@ -102,6 +116,8 @@ pub fn check(code: &[u8]) -> Result<StepCounts, BadCode> {
         Ok(()) => Ok(StepCounts {
             loads: outcome.loads,
             others: outcome.others,
+            patterns: outcome.patterns,
+            tests: outcome.tests,
         }),
         Err(refusal) => Err(BadCode {
             refusal,

@@ -1,5 +1,5 @@
-//! The proved library on all rows of the vectors and on the examples of
-//! document 01.
+//! The proved library on all rows of the vectors and on the examples of the
+//! documents.
 //!
 //! Needs the archive. `paper_vectors` and `paper_laws` do the same with the
 //! independent implementation.
@@ -16,36 +16,42 @@ fn examples() {
 
 #[test]
 fn find() {
-    vectors::find(&PROVED);
+    vectors::run("find.tsv", &PROVED);
 }
 
 #[test]
 fn replace() {
-    vectors::replace(&PROVED);
+    vectors::run("replace.tsv", &PROVED);
 }
 
 #[test]
 fn check() {
-    vectors::check(&PROVED);
+    vectors::run("check.tsv", &PROVED);
 }
 
 #[test]
 fn convert() {
-    vectors::convert("convert.tsv", &PROVED);
+    vectors::run("convert.tsv", &PROVED);
 }
 
 #[test]
 fn give() {
-    vectors::convert("give.tsv", &PROVED);
+    vectors::run("give.tsv", &PROVED);
 }
 
 #[test]
 fn date() {
-    vectors::date(&PROVED);
+    vectors::run("date.tsv", &PROVED);
 }
 
 /// The program of this package around the proved library's converting.
 #[test]
 fn program() {
-    vectors::program(&PROVED);
+    vectors::run("program.tsv", &PROVED);
+}
+
+/// All calls, with the P code in.
+#[test]
+fn pattern_codes() {
+    vectors::run("L1.tsv", &PROVED);
 }

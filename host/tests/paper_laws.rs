@@ -1,5 +1,5 @@
-//! The independent implementation by itself: the examples of document 01, and
-//! on generated calls what the paper promises of every call. These also show
+//! The independent implementation by itself: the examples of the documents,
+//! and on generated calls what they promise of every call. These also show
 //! that the generator reaches everything.
 //!
 //! Needs no archive: runs on any processor. `SUNDEWFRILL_CASES` sets the number
@@ -79,6 +79,7 @@ fn convert() {
             let again = call.run(&PAPER, &mut buffers);
             laws::budget(&call, enough, (&outcome, &answer), &again, &buffers);
         }
+        laws::pattern_code(&call, &PAPER, &mut buffers);
     });
     coverage.require_of_convert();
 }

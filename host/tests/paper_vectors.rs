@@ -9,35 +9,41 @@ use common::vectors;
 
 #[test]
 fn find() {
-    vectors::find(&PAPER);
+    vectors::run("find.tsv", &PAPER);
 }
 
 #[test]
 fn replace() {
-    vectors::replace(&PAPER);
+    vectors::run("replace.tsv", &PAPER);
 }
 
 #[test]
 fn check() {
-    vectors::check(&PAPER);
+    vectors::run("check.tsv", &PAPER);
 }
 
 #[test]
 fn convert() {
-    vectors::convert("convert.tsv", &PAPER);
+    vectors::run("convert.tsv", &PAPER);
 }
 
 #[test]
 fn give() {
-    vectors::convert("give.tsv", &PAPER);
+    vectors::run("give.tsv", &PAPER);
 }
 
 #[test]
 fn date() {
-    vectors::date(&PAPER);
+    vectors::run("date.tsv", &PAPER);
 }
 
 #[test]
 fn program() {
-    vectors::program(&PAPER);
+    vectors::run("program.tsv", &PAPER);
+}
+
+/// All calls, with the P code in.
+#[test]
+fn pattern_codes() {
+    vectors::run("L1.tsv", &PAPER);
 }

@@ -1,6 +1,6 @@
-//! The program of document 01 itself, run as a user runs it: on all rows of
-//! `program.tsv`, and beside the independent program on generated input and at
-//! the limits of its budget and its output.
+//! The program of document 01 itself, run as a user runs it: on all its rows of
+//! the vectors, and beside the independent program on generated input and at the
+//! limits of its budget and its output.
 //!
 //! Needs the program. The environment variable `SUNDEWFRILL_PROGRAM` is the
 //! command that runs it, a word a line; without it that is
@@ -86,7 +86,7 @@ fn input(rng: &mut Rng, buffers: &mut Buffers) -> Vec<u8> {
 
 #[test]
 fn vectors() {
-    vectors::program_by("the program", program);
+    vectors::programs("the program", program);
 }
 
 #[test]

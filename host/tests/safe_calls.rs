@@ -44,8 +44,17 @@ fn checking() {
     let counts = StepCounts {
         loads: 2,
         others: 1,
+        patterns: 0,
+        tests: 0,
     };
     assert_eq!(check(b"F;1;2R;*"), Ok(counts));
+    let counts = StepCounts {
+        loads: 1,
+        others: 1,
+        patterns: 2,
+        tests: 5,
+    };
+    assert_eq!(check(b"P(0X'a'0X)\xfdF;1;(P(1N);(2A));(L)"), Ok(counts));
     let bad = BadCode {
         refusal: Refusal::StackMisused,
         code_number: 2,
@@ -86,6 +95,7 @@ fn converting() {
 fn ceilings() {
     let all_of_one = Address::new(1, 0, 0);
     assert_eq!(ceiling(RECORD, b"F;1;2R;*", all_of_one), Ok(12_334));
+    assert_eq!(ceiling(RECORD, b"F;1;(P(1N);(2A))", all_of_one), Ok(8_220));
     assert_eq!(ceiling(RECORD, b"", all_of_one), Ok(0));
     assert_eq!(ceiling(RECORD, b"L", Address::new(9, 0, 0)), Ok(4_097));
     for (record, code, at, refusal) in [
@@ -96,6 +106,19 @@ fn ceilings() {
     ] {
         assert_eq!(ceiling(record, code.as_bytes(), at), Err(refusal));
     }
+}
+
+#[test]
+fn patterns() {
+    let (mut output, mut scratch) = ([7; 5], [7; SCRATCH_LENGTH]);
+    let record = b"K1\xfe7\xfdAB\xfdA1";
+    let at = Address::new(1, 0, 0);
+    let passed = convert(record, b"P(1N);(2A)", at, 22, &mut output, &mut scratch);
+    let expected = Converted {
+        answer: b"7\xfdAB\xfd",
+        steps: 6 + 9 + 7,
+    };
+    assert_eq!(passed, Ok(expected));
 }
 
 /// A budget as great as the ceiling is never used up.

@@ -8,7 +8,7 @@
 //! |---|---|
 //! | `find` record a v s | refusal found part |
 //! | `replace` record a v s new output-length | refusal length answer |
-//! | `check` code | refusal code-number A B |
+//! | `check` code | refusal code-number A B P T |
 //! | `convert` record code a v s budget output-length scratch-length | refusal steps length answer |
 //! | `ceilingof` record code a v s | the ceiling, 0 where it is refused |
 //! | `date` code text | refusal day |
@@ -119,8 +119,13 @@ fn check(mut line: Line) -> Result<String, Fault> {
     line.end()?;
     let outcome = ffi::check(&code);
     Ok(format!(
-        "{} {} {} {}",
-        outcome.refusal, outcome.code_number, outcome.loads, outcome.others
+        "{} {} {} {} {} {}",
+        outcome.refusal,
+        outcome.code_number,
+        outcome.loads,
+        outcome.others,
+        outcome.patterns,
+        outcome.tests
     ))
 }
 

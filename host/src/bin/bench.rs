@@ -299,6 +299,7 @@ fn workloads() -> Vec<Workload> {
         },
     ];
     workloads.extend(long_elements());
+    workloads.extend(pattern_codes());
     workloads.extend(checks());
     workloads.extend(at_end());
     workloads.extend(empty_values());
@@ -355,6 +356,26 @@ fn long_elements() -> Vec<Workload> {
         Workload {
             name: "30 elements of 1,024 hex digits through MY",
             call: convert(column(30, |_| b"4b31".repeat(256)), b"MY", 32_768),
+        },
+    ]
+}
+
+/// Patterns on 30 elements of 1,024 bytes that leave many places open to the end.
+fn pattern_codes() -> Vec<Workload> {
+    let elements = |byte: u8| column(30, |_| vec![byte; paper::ENTRY_LENGTH]);
+    let literal = [b"P(0X'".as_slice(), &[b'a'; 400], b"')"].concat();
+    vec![
+        Workload {
+            name: "30 elements of 1,024 a through P(0X0X0X0X0X'b'), which fails",
+            call: convert(elements(b'a'), b"P(0X0X0X0X0X'b')", 32_768),
+        },
+        Workload {
+            name: "30 elements of 1,024 digits through P(0N500N0N)",
+            call: convert(elements(b'7'), b"P(0N500N0N)", 32_768),
+        },
+        Workload {
+            name: "30 elements of 1,024 a through P(0X and a literal of 400 a)",
+            call: convert(elements(b'a'), &literal, 32_768),
         },
     ]
 }

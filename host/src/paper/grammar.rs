@@ -5,6 +5,7 @@
 
 pub use super::calendar::DateForm;
 pub use super::mask::{Credit, Field, Fill, Mask, Side};
+pub use super::pattern::{Class, Pattern, PatternCode, Test};
 pub use super::text::{CharacterCode, Cut, Group, LengthCode};
 use super::{CODE_LENGTH, LEAST_MARK, STACK_DEPTH, VALUE_MARK};
 use crate::refusal::Refusal;
@@ -15,12 +16,12 @@ pub enum Code<'c> {
     /// An F code.
     Function(Vec<Elm<'c>>),
     /// Any other code.
-    Conversion(Conversion),
+    Conversion(Conversion<'c>),
 }
 
 /// A code other than F.
-#[derive(Clone, Copy, Debug, PartialEq, Eq)]
-pub enum Conversion {
+#[derive(Clone, Debug, PartialEq, Eq)]
+pub enum Conversion<'c> {
     /// `G`
     Group(Group),
     /// `T`
@@ -37,10 +38,12 @@ pub enum Conversion {
     Mask(Mask),
     /// `D`
     Date(DateForm),
+    /// `P`
+    Pattern(PatternCode<'c>),
 }
 
 /// An elm of an F code.
-#[derive(Clone, Copy, Debug, PartialEq, Eq)]
+#[derive(Clone, Debug, PartialEq, Eq)]
 pub enum Elm<'c> {
     /// An attribute load.
     Load(Load),
@@ -61,7 +64,7 @@ pub enum Elm<'c> {
     /// `P`
     Duplicate,
     /// A code in parentheses.
-    Convert(Conversion),
+    Convert(Conversion<'c>),
 }
 
 /// An attribute load.
@@ -116,13 +119,37 @@ pub enum Relation {
     LessOrEqual,
 }
 
-/// How many steps a code string has.
+/// How many steps a code string has, and how many tests.
 #[derive(Clone, Copy, Debug, Default, PartialEq, Eq)]
 pub struct Counts {
     /// A: the attribute loads.
     pub loads: u64,
-    /// B: the other steps.
+    /// B: the steps that are neither loads nor P codes.
     pub others: u64,
+    /// P: the P codes.
+    pub patterns: u64,
+    /// T: the tests of all P codes.
+    pub tests: u64,
+}
+
+impl Counts {
+    fn add_elm(&mut self, elm: &Elm) {
+        match elm {
+            Elm::Load(_) => self.loads += 1,
+            Elm::Convert(conversion) => self.add_conversion(conversion),
+            _ => self.others += 1,
+        }
+    }
+
+    fn add_conversion(&mut self, conversion: &Conversion) {
+        match conversion {
+            Conversion::Pattern(code) => {
+                self.patterns += 1;
+                self.tests += code.tests() as u64;
+            }
+            _ => self.others += 1,
+        }
+    }
 }
 
 /// The first bad code of a string.
@@ -139,14 +166,8 @@ pub fn check(string: &[u8]) -> Result<Counts, Bad> {
     let mut counts = Counts::default();
     for_each_code(string, |code| {
         match elms(code)? {
-            Some(elms) => checked_elms(elms, |elm| match elm {
-                Elm::Load(_) => counts.loads += 1,
-                _ => counts.others += 1,
-            })?,
-            None => {
-                whole_conversion(code)?;
-                counts.others += 1;
-            }
+            Some(elms) => checked_elms(elms, |elm| counts.add_elm(&elm))?,
+            None => counts.add_conversion(&whole_conversion(code)?),
         }
         Ok(())
     })?;
@@ -225,7 +246,7 @@ fn checked_elms<'c>(elms: Elms<'c>, mut take: impl FnMut(Elm<'c>)) -> Result<(),
     let mut depth = Some(0);
     for elm in elms {
         let elm = elm?;
-        depth = depth.and_then(|depth| depth_after(depth, elm));
+        depth = depth.and_then(|depth| depth_after(depth, &elm));
         take(elm);
     }
     // Grammar comes first: only a code that was read to its end can misuse the
@@ -237,7 +258,7 @@ fn checked_elms<'c>(elms: Elms<'c>, mut take: impl FnMut(Elm<'c>)) -> Result<(),
 }
 
 /// How many entries an elm takes and puts.
-pub fn entries(elm: Elm) -> (usize, usize) {
+pub fn entries(elm: &Elm) -> (usize, usize) {
     match elm {
         Elm::Load(_) | Elm::Literal(_) | Elm::Previous => (0, 1),
         Elm::Arithmetic(_) | Elm::Relation(_) | Elm::Join => (2, 1),
@@ -249,7 +270,7 @@ pub fn entries(elm: Elm) -> (usize, usize) {
 }
 
 /// How many entries the stack has after an elm, if it may be carried out.
-fn depth_after(depth: usize, elm: Elm) -> Option<usize> {
+fn depth_after(depth: usize, elm: &Elm) -> Option<usize> {
     let (takes, puts) = entries(elm);
     let after = depth.checked_sub(takes)? + puts;
     (after <= STACK_DEPTH).then_some(after)
@@ -315,7 +336,7 @@ fn literal<'c>(reader: &mut Reader<'c>) -> Option<&'c [u8]> {
     Some(literal)
 }
 
-fn in_parentheses(reader: &mut Reader) -> Option<Conversion> {
+fn in_parentheses<'c>(reader: &mut Reader<'c>) -> Option<Conversion<'c>> {
     reader.next()?;
     let conversion = conversion(reader)?;
     reader.eat(b')').then_some(conversion)
@@ -348,7 +369,7 @@ fn sign<'c>(reader: &mut Reader<'c>) -> Option<Elm<'c>> {
 }
 
 /// The conversion that is the whole of `code`, else refusal 6.
-fn whole_conversion(code: &[u8]) -> Result<Conversion, Refusal> {
+fn whole_conversion(code: &[u8]) -> Result<Conversion<'_>, Refusal> {
     let mut reader = Reader { rest: code };
     match conversion(&mut reader) {
         Some(conversion) if reader.at_end() => Ok(conversion),
@@ -357,8 +378,9 @@ fn whole_conversion(code: &[u8]) -> Result<Conversion, Refusal> {
 }
 
 /// Reads a code other than F; `None` if there is none in the grammar.
-fn conversion(reader: &mut Reader) -> Option<Conversion> {
+fn conversion<'c>(reader: &mut Reader<'c>) -> Option<Conversion<'c>> {
     Some(match reader.next()? {
+        b'P' => Conversion::Pattern(pattern_code(reader)?),
         b'G' => Conversion::Group(group(reader)?),
         b'T' => Conversion::Cut(cut(reader)?),
         b'L' => Conversion::Length(length_code(reader)?),
@@ -372,6 +394,42 @@ fn conversion(reader: &mut Reader) -> Option<Conversion> {
             _ => return None,
         },
         _ => return None,
+    })
+}
+
+/// Reads patterns for as long as a `;` announces another one. Behind the last
+/// one anything may stand: it is no longer the code's.
+fn pattern_code<'c>(reader: &mut Reader<'c>) -> Option<PatternCode<'c>> {
+    let mut patterns = vec![pattern(reader)?];
+    while reader.eat(b';') {
+        patterns.push(pattern(reader)?);
+    }
+    Some(PatternCode { patterns })
+}
+
+fn pattern<'c>(reader: &mut Reader<'c>) -> Option<Pattern<'c>> {
+    reader.eat(b'(').then_some(())?;
+    let mut tests = vec![test(reader)?];
+    while !reader.eat(b')') {
+        tests.push(test(reader)?);
+    }
+    Some(Pattern { tests })
+}
+
+fn test<'c>(reader: &mut Reader<'c>) -> Option<Test<'c>> {
+    if matches!(reader.peek()?, b'\'' | b'"') {
+        return Some(Test::Literal(literal(reader)?));
+    }
+    let count = usize::from(reader.number(3)?);
+    let class = match reader.next()? {
+        b'N' => Class::Numeric,
+        b'A' => Class::Alphabetic,
+        b'X' => Class::Any,
+        _ => return None,
+    };
+    Some(match count {
+        0 => Test::AnyNumber(class),
+        _ => Test::Exactly(count, class),
     })
 }
 
@@ -568,7 +626,9 @@ mod tests {
             "F;1;(G1;1)", "F;1;(G)1)", "F;1;(G(1)", "F;';)'", "F;\"'\"", "F;''", "F;0RR", "F;999",
             "T0", "T1,0", "L", "L5,3", "G0*1", "G*1", "F;1;2;*0", "D", "D ", "D4'", "D0/",
             "MR2(#0099)", "ML", "MR99Z,N$(%1)", "MRZ", "MR,", "MR$", "ML(*5)", "F;1;(MR2(#4))",
-            "F;1;P;[", "F;1;P;P;[]",
+            "F;1;P;[", "F;1;P;P;[]", "P(3N)", "P(1N2A3X)", "P(\"it's\")", "P(')')", "P('')",
+            "P('(;')", "P(1N);(2A'-'0X)", "P('a''b')", "P(0N00A000X)", "P(999N)",
+            "F;1;(P(1N);(2A))", "F;1;(P(1N));(L)", "F;1;(P(');('))", "F;1;P;+",
         ] {
             assert_eq!(refusal(code), 0, "{code}");
         }
@@ -581,10 +641,36 @@ mod tests {
             "F;1;+;ZZ", "F;'x", "FS;1", "T", "T,3", "T0,3", "T1,", "T12345", "L,3", "L1,", "G1*",
             "G1*0", "G11", "D5", "D44", "D(", "D;", "Da", "MC", "MC/U", "MCD", "MT", "MX1",
             "MR123", "MR,Z", "MR(#00)", "MR(#100)", "MR(#00099)", "MR(#)", "MR(x4)", "MR(#4", "A1",
-            " L", "L ", "F;1;*10", "F;LP",
+            " L", "L ", "F;1;*10", "F;LP", "P", "P()", "P(N)", "P(1)", "P(1n)", "P(1a)", "P(1x)",
+            "P(1234N)", "P(0000N)", "P(1N)(2A)", "P(1N);", "P(1N);;(2A)", "P(1N;2A)", "P(1N,2A)",
+            "P(1N 2A)", "P;(1N)", "P(\"a')", "P('a)", "P(1N", "P(1N))", "P(1N)x", "P 1N", "p(1N)",
+            "P('a'b)", "P(-1N)", "F;1;(P)", "F;1;P(1N)", "F;1;(P(1N));(2A)", "F;1;(P(1N);(L))",
+            "F;1;(P(1N)", "F;1;(P(1N);)",
         ] {
             assert_eq!(refusal(code), 6, "{code}");
         }
+    }
+
+    #[test]
+    fn patterns_and_tests() {
+        for (code, loads, others, patterns, tests) in [
+            ("P(1N);(2A'-'0X)", 0, 0, 1, 4),
+            ("F;1;(P(1N);(2A))", 1, 0, 1, 2),
+            ("F;1;(P(1N));(L);P;(P(''\"\"))", 1, 2, 2, 3),
+            ("F;1;P;+", 1, 2, 0, 0),
+        ] {
+            let counts = Counts {
+                loads,
+                others,
+                patterns,
+                tests,
+            };
+            assert_eq!(check(code.as_bytes()), Ok(counts), "{code}");
+        }
+        // As many tests as a string has room for.
+        let most = format!("P({})", "1N".repeat(254));
+        assert_eq!(check(most.as_bytes()).map(|counts| counts.tests), Ok(254));
+        assert_eq!(refusal(&format!("P({})", "1N".repeat(255))), 5);
     }
 
     #[test]

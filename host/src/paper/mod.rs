@@ -1,5 +1,6 @@
-//! Document 01 written down once more, from it, the two standards and the
-//! readings of `docs/DECISIONS.md` alone.
+//! Document 01 with request L1 of document 02, the P code, written down once
+//! more, from these two, the two standards and the readings of
+//! `docs/DECISIONS.md` alone.
 //!
 //! Nothing here comes from the proved library or knows how it works: the two
 //! are compared on all they give, every byte of output and scratch included.
@@ -9,7 +10,7 @@
 //!
 //! - `record`: marks, addresses, finding and replacing;
 //! - [`grammar`]: from a code string to its codes;
-//! - `number`, `calendar`, `mask`, `text`: what single codes do;
+//! - `number`, `calendar`, `mask`, `text`, `pattern`: what single codes do;
 //! - `stack`: the entries of an F code;
 //! - `run`: elements through codes, with the steps counted;
 //! - `program`: from standard input to standard output.
@@ -18,6 +19,7 @@ mod calendar;
 pub mod grammar;
 mod mask;
 mod number;
+mod pattern;
 mod pen;
 mod program;
 mod record;
@@ -101,6 +103,8 @@ pub fn check(code: &[u8]) -> Check {
             code_number: 0,
             loads: counts.loads,
             others: counts.others,
+            patterns: counts.patterns,
+            tests: counts.tests,
         },
         Err(bad) => Check {
             refusal: bad.refusal.number(),

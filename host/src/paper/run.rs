@@ -52,12 +52,16 @@ pub fn convert(
 pub fn ceiling(record: &[u8], code: &[u8], at: Address) -> Result<u64, Refusal> {
     record::admit(record, at)?;
     let counts = grammar::check(code).map_err(|bad| bad.refusal)?;
-    // A load costs the record and an entry; no other step meets more than four
-    // entries: `[]` takes three and puts one, `_` takes two and puts two.
-    let load = 1 + ENTRY_LENGTH + record.len();
-    let other = 1 + 4 * ENTRY_LENGTH;
+    // A load costs the record and an entry; a P code an entry that it puts and,
+    // for each test, all places of an entry, its end too; no other step meets
+    // more than four entries: `[]` takes three and puts one, `_` takes two and
+    // puts two.
+    let entry = 1 + ENTRY_LENGTH as u64;
+    let loads = counts.loads * (entry + record.len() as u64);
+    let others = counts.others * (1 + 4 * ENTRY_LENGTH as u64);
+    let patterns = (counts.patterns + counts.tests) * entry;
     let elements = record::elements(record, at).count() as u64;
-    Ok(elements * (counts.loads * load as u64 + counts.others * other as u64))
+    Ok(elements * (loads + others + patterns))
 }
 
 /// The answer as it grows. Once the output is too short for it, only its length
@@ -116,7 +120,7 @@ impl Run<'_> {
     fn conversion(&mut self, conversion: &Conversion) -> Result<(), Refusal> {
         let taken = self.length;
         self.length = apply(conversion, self.current, taken)?;
-        self.charge(1 + taken + self.length)
+        self.charge(price(conversion, taken, self.length))
     }
 
     /// Takes the element through an F code.
@@ -186,12 +190,12 @@ impl Run<'_> {
                 self.stack.duplicate();
                 Ok(1 + 3 * self.stack.top_length(1))
             }
-            Elm::Convert(conversion) => {
+            Elm::Convert(ref conversion) => {
                 let taken = self.stack.top_length(1);
                 let put = self
                     .stack
-                    .replace(1, |room| apply(&conversion, room, taken))?;
-                Ok(1 + taken + put)
+                    .replace(1, |room| apply(conversion, room, taken))?;
+                Ok(price(conversion, taken, put))
             }
         }
     }
@@ -279,5 +283,16 @@ fn apply(conversion: &Conversion, room: &mut [u8], length: usize) -> Result<usiz
         Conversion::FromHex => text::from_hex(room, length),
         Conversion::Mask(code) => mask::write(code, room, length),
         Conversion::Date(form) => calendar::write(form, room, length),
+        Conversion::Pattern(ref code) => Ok(code.left_of(&room[..length])),
     }
+}
+
+/// What a step of a code other than F costs that took and put so many bytes.
+fn price(conversion: &Conversion, taken: usize, put: usize) -> usize {
+    let looked_at = match conversion {
+        // Each test may have to look at all places of the element, its end too.
+        Conversion::Pattern(code) => code.tests() * (taken + 1),
+        _ => taken,
+    };
+    1 + looked_at + put
 }

@@ -1,10 +1,12 @@
-//! The examples of document 01, and the points at which its readings part.
+//! The examples of document 01 and of request L1 of document 02, and the points
+//! at which their readings part.
 
 use sundewfrill_host::outcome::{Address, Ceiling, Check, Convert, Implementation, TypedDate};
 use sundewfrill_host::{paper, SCRATCH_LENGTH};
 
 use super::buffers::Buffers;
 use super::calls::{ConvertCall, ReplaceCall};
+use super::generator::NEAR_MISSES;
 
 /// Bytes with the marks drawn: `^`, `]` and `\` become 254, 253 and 252.
 pub fn marked(text: &str) -> Vec<u8> {
@@ -21,13 +23,13 @@ pub fn marked(text: &str) -> Vec<u8> {
 fn converted(
     implementation: &Implementation,
     record: &[u8],
-    code: &str,
+    code: &[u8],
     at: Address,
     budget: u64,
 ) -> (Convert, Vec<u8>) {
     let call = ConvertCall {
         record: record.to_vec(),
-        code: code.as_bytes().to_vec(),
+        code: code.to_vec(),
         at,
         budget,
         output_length: paper::RECORD_LENGTH,
@@ -43,6 +45,7 @@ fn converted(
 fn given(implementation: &Implementation, code: &str, element: &str) -> (u64, String) {
     let record = [b"K1\xfe", element.as_bytes()].concat();
     let at = Address::new(1, 1, 1);
+    let code = code.as_bytes();
     let (outcome, answer) = converted(implementation, &record, code, at, u64::MAX);
     (
         outcome.refusal,
@@ -55,9 +58,12 @@ pub fn run(implementation: &Implementation) {
     counted(implementation);
     ceilings(implementation);
     single_codes(implementation);
+    patterns(implementation);
+    pattern_prices(implementation);
     lengths(implementation);
     replacing(implementation);
     checking(implementation);
+    checking_patterns(implementation);
     typed_dates(implementation);
 }
 
@@ -65,16 +71,17 @@ pub fn run(implementation: &Implementation) {
 fn counted(implementation: &Implementation) {
     let record = marked("K1^10]20^3");
     let at = Address::new(1, 0, 0);
-    let whole = converted(implementation, &record, "F;1;2R;*", at, 1_000_000);
+    let code = b"F;1;2R;*";
+    let whole = converted(implementation, &record, code, at, 1_000_000);
     let expected = Convert {
         refusal: 0,
         steps: 62,
         length: 5,
     };
     assert_eq!(whole, (expected, marked("30]60")));
-    let exact = converted(implementation, &record, "F;1;2R;*", at, 62);
+    let exact = converted(implementation, &record, code, at, 62);
     assert_eq!(exact, whole);
-    let short = converted(implementation, &record, "F;1;2R;*", at, 61);
+    let short = converted(implementation, &record, code, at, 61);
     let expected = Convert {
         refusal: 15,
         steps: 56,
@@ -98,6 +105,8 @@ fn ceilings(implementation: &Implementation) {
         ("K1^A\\B]C^D", "F;0", (0, 0, 0), 0, 1_025 + 10),
         ("K1", "F;1;LPV]MCU", (7, 0, 0), 0, 1_025 + 2 + 2 * 4_097),
         ("K1", "", whole, 0, 0),
+        ("K1^10]20^3", "F;1;(P(1N);(2A))", whole, 0, 8_220),
+        ("K1", "P(1N);(2A'-'0X)]L]P('')", whole, 0, 7 * 1_025 + 4_097),
         // An element over 1,024 bytes is refused by the run alone.
         (&["K1^", &"A".repeat(1_025)].concat(), "L", whole, 0, 4_097),
         // In converting's order.
@@ -193,6 +202,70 @@ fn single_codes(implementation: &Implementation) {
     }
 }
 
+/// Which elements patterns pass and which they empty, parted by `|`. A P code
+/// gives the element or nothing.
+fn patterns(implementation: &Implementation) {
+    for (code, passed, emptied) in [
+        ("P(3N)", "123", "12|1234|12a|-12| 42"),
+        ("P(2N)", "42", " 42|42 |+4|-4|4/|:4"),
+        ("P(2A)", "aZ|Az", "a|a1|a-|@a|[a|`a|{a|a\u{e4}"),
+        ("P(3X)", "abc|1 -", "ab|abcd"),
+        ("P(1N2A3X)", "1ab?? ", "1ab??|ab1???"),
+        ("P(1N1N1X)", "777|77a", "77|7777|7a7"),
+        ("P(0N1N)", "7|77", "a|7a"),
+        ("P(0N1A0N)", "a|7a|a7|77a7", "7|aa|7a7a"),
+        ("P(0N500N0N)", "", "7"),
+        ("P(0X'a')", "a|banana", "b|ab"),
+        ("P(0X'aa')", "aa|aaa", "a|aab"),
+        ("P(001N)", "7", "77"),
+        ("P(00N)", "7|77", "a"),
+        ("P(000A)", "ab", "a1"),
+        ("P('')", "", "a|'"),
+        ("P('a''b')", "ab", "a'b|a''b"),
+        ("P(\"it's\")", "it's", "its"),
+        ("P(');(')", ");(", ";"),
+        ("P(1N);(2A)", "1|ab", "1ab|a|12"),
+        ("P(1N);(2A'-'0X)", "7|ab-|ab-12", "ab|7-"),
+        ("F;LPV;(P(1N);(2A))", "1|ab", "1ab|a"),
+    ] {
+        for element in passed.split('|') {
+            let outcome = given(implementation, code, element);
+            assert_eq!(outcome, (0, element.to_owned()), "{code} on {element:?}");
+        }
+        for element in emptied.split('|') {
+            let outcome = given(implementation, code, element);
+            assert_eq!(outcome, (0, String::new()), "{code} on {element:?}");
+        }
+    }
+}
+
+/// What P steps cost: all tests of the code, tried or not, look at every place
+/// of the element.
+fn pattern_prices(implementation: &Implementation) {
+    let longest = "a".repeat(1_024);
+    for (code, element, steps) in [
+        ("P(1N);(2A)", "AB", 1 + 2 * 3 + 2),
+        ("P(1N);(2A)", "A1", 1 + 2 * 3),
+        ("P(2A);(1N)", "AB", 1 + 2 * 3 + 2),
+        ("P(0N)", "", 2),
+        ("P(1N)", "", 2),
+        ("P('')", "x", 3),
+        ("P(0X'a')", "banana", 1 + 2 * 7 + 6),
+        ("F;LPV;(P(1N));(L)", "7", 2 + (1 + 2 + 1) + (1 + 1 + 1)),
+        ("P(1A)]P(1N)]P(0X0X)", "a", (1 + 2 + 1) + (1 + 2) + (1 + 2)),
+        // As much as the ceiling says.
+        ("P(0X)", &longest, 2 * 1_025),
+        ("P(1N);(0A'a'0X)", &longest, 5 * 1_025),
+    ] {
+        let record = [b"K1\xfe", element.as_bytes()].concat();
+        let (code, at) = (marked(code), Address::new(1, 0, 0));
+        let (outcome, _) = converted(implementation, &record, &code, at, steps);
+        assert_eq!((outcome.refusal, outcome.steps), (0, steps), "{code:02x?}");
+        let (outcome, _) = converted(implementation, &record, &code, at, steps - 1);
+        assert_eq!(outcome.refusal, 15, "{code:02x?}");
+    }
+}
+
 /// Lengths on both sides of a limit.
 fn lengths(implementation: &Implementation) {
     for (code, length, refusal) in [
@@ -233,30 +306,65 @@ fn replacing(implementation: &Implementation) {
     }
 }
 
-/// Code strings and their counts.
+/// Code strings and their counts: A, B, P, T.
 fn checking(implementation: &Implementation) {
     let sixteen = format!("F{}", ";'1'".repeat(16));
     let seventeen = format!("F{}", ";'1'".repeat(17));
-    for (code, refusal, code_number, loads, others) in [
-        ("", 0, 0, 0, 0),
-        ("F;1;2R;*", 0, 0, 2, 1),
-        ("F;0;LPV;:]MCU", 0, 0, 1, 3),
-        ("]", 6, 1, 0, 0),
-        ("L]F;1;+", 7, 2, 0, 0),
-        ("L]F;1;+;ZZ]?", 6, 2, 0, 0),
-        (&sixteen, 0, 0, 0, 16),
-        (&seventeen, 7, 1, 0, 0),
-        (&"x".repeat(512), 6, 1, 0, 0),
-        (&"x".repeat(513), 5, 0, 0, 0),
+    for (code, refusal, code_number, counts) in [
+        ("", 0, 0, [0; 4]),
+        ("F;1;2R;*", 0, 0, [2, 1, 0, 0]),
+        ("F;0;LPV;:]MCU", 0, 0, [1, 3, 0, 0]),
+        ("]", 6, 1, [0; 4]),
+        ("L]F;1;+", 7, 2, [0; 4]),
+        ("L]F;1;+;ZZ]?", 6, 2, [0; 4]),
+        (&sixteen, 0, 0, [0, 16, 0, 0]),
+        (&seventeen, 7, 1, [0; 4]),
+        (&"x".repeat(512), 6, 1, [0; 4]),
+        (&"x".repeat(513), 5, 0, [0; 4]),
     ] {
-        let expected = Check {
-            refusal,
-            code_number,
-            loads,
-            others,
-        };
-        assert_eq!((implementation.check)(&marked(code)), expected, "{code}");
+        checked(implementation, code, (refusal, code_number, counts));
     }
+}
+
+/// Code strings with P codes, or nearly.
+fn checking_patterns(implementation: &Implementation) {
+    let most_tests = format!("P({})", "1N".repeat(254));
+    for (code, refusal, code_number, counts) in [
+        ("P(3N)", 0, 0, [0, 0, 1, 1]),
+        ("P(1N);(2A'-'0X)", 0, 0, [0, 0, 1, 4]),
+        ("F;1;(P(1N);(2A))", 0, 0, [1, 0, 1, 2]),
+        ("F;1;(P(1N));(L)", 0, 0, [1, 1, 1, 1]),
+        ("F;1;(P(1N));(2A)", 6, 1, [0; 4]),
+        ("F;1;(P(1N);(L))", 6, 1, [0; 4]),
+        ("F;1;P;+", 0, 0, [1, 2, 0, 0]),
+        ("F;1;(P)", 6, 1, [0; 4]),
+        ("F;1;P(1N)", 6, 1, [0; 4]),
+        ("F;(P(1N))", 7, 1, [0; 4]),
+        ("P('a]b')", 6, 1, [0; 4]),
+        ("P('^')", 6, 1, [0; 4]),
+        ("P(1N)]MX]P(''\"\")", 0, 0, [0, 1, 2, 3]),
+        ("P(1N)]MX]P(''\"\")]P(1N 2A)", 6, 4, [0; 4]),
+        (&most_tests, 0, 0, [0, 0, 1, 254]),
+    ] {
+        checked(implementation, code, (refusal, code_number, counts));
+    }
+    for code in NEAR_MISSES {
+        checked(implementation, code, (6, 1, [0; 4]));
+    }
+}
+
+/// Fails unless checking a string gives this refusal, code number and counts.
+fn checked(implementation: &Implementation, code: &str, expected: (u64, u64, [u64; 4])) {
+    let (refusal, code_number, [loads, others, patterns, tests]) = expected;
+    let expected = Check {
+        refusal,
+        code_number,
+        loads,
+        others,
+        patterns,
+        tests,
+    };
+    assert_eq!((implementation.check)(&marked(code)), expected, "{code}");
 }
 
 /// Typed dates.
@@ -278,6 +386,7 @@ fn typed_dates(implementation: &Implementation) {
         ("D0", "1 JAN 1967", 12, 0),
         ("L", "1 JAN 1967", 6, 0),
         ("D]D", "1 JAN 1967", 6, 0),
+        ("P(0X)", "1 JAN 1967", 6, 0),
         ("", "1 JAN 1967", 6, 0),
         (&"D".repeat(513), "1 JAN 1967", 5, 0),
     ] {

@@ -1,4 +1,4 @@
-//! What document 01 promises of every call, whoever carries it out.
+//! What documents 01 and 02 promise of every call, whoever carries it out.
 
 use std::fmt::Display;
 use std::ops::RangeInclusive;
@@ -6,10 +6,11 @@ use std::ops::RangeInclusive;
 use sundewfrill_host::outcome::{
     Address, Ceiling, Check, Convert, Find, Implementation, Replace, TypedDate,
 };
-use sundewfrill_host::paper;
+use sundewfrill_host::{paper, SCRATCH_LENGTH};
 
 use super::buffers::{all_zero, Buffers};
 use super::calls::{CeilingCall, CheckCall, ConvertCall, DateCall, FindCall, ReplaceCall};
+use super::patterns::{has_cut, patterns, tests};
 
 /// The days of the calendar.
 pub const DAYS: RangeInclusive<i64> = -718_430..=2_933_628;
@@ -78,8 +79,9 @@ fn contains(one: Address, other: Address) -> bool {
     one.a == other.a && (one.v == 0 || one.v == other.v && (one.s == 0 || one.s == other.s))
 }
 
-/// An accepted string has a step or more in each code, a refused one no counts.
-/// A bad code has its number, from 1; no other outcome has one.
+/// An accepted string has a step or more in each code, and a test or more in each
+/// P code; a refused one has no counts. A bad code has its number, from 1; no
+/// other outcome has one.
 pub fn check(call: &CheckCall, outcome: &Check) {
     let length = call.code.len() as u64;
     let marks = call.code.iter().filter(|&&byte| byte == paper::VALUE_MARK);
@@ -88,12 +90,16 @@ pub fn check(call: &CheckCall, outcome: &Check) {
     } else {
         1 + marks.count() as u64
     };
-    let steps = outcome.loads.saturating_add(outcome.others);
+    let steps = [outcome.loads, outcome.others, outcome.patterns];
+    let steps = steps.into_iter().fold(0, u64::saturating_add);
+    let tested = (outcome.patterns..=254).contains(&outcome.tests);
     let counted = match outcome.refusal {
-        0 => (codes..=length).contains(&steps),
-        _ => steps == 0,
+        0 => (codes..=length).contains(&steps) && tested,
+        _ => (steps, outcome.tests) == (0, 0),
     };
     law(counted, "the counts of a checked string", call, outcome);
+    let none = (outcome.patterns == 0) == (outcome.tests == 0);
+    law(none, "tests where there are P codes", call, outcome);
     let numbered = match outcome.refusal {
         0 | 5 => outcome.code_number == 0,
         6 | 7 => (1..=codes).contains(&outcome.code_number),
@@ -144,7 +150,11 @@ pub fn ceiling(call: &CeilingCall, outcome: &Ceiling, implementation: &Implement
     let elements = 1 + marks.filter(|&&byte| byte >= paper::LEAST_MARK).count() as u64;
     let length = call.record.len() as u64;
     let ceiling = match refusal {
-        0 => elements * (counts.loads * (1_025 + length) + counts.others * 4_097),
+        0 => {
+            let loads = counts.loads * (1_025 + length);
+            let patterns = (counts.patterns + counts.tests) * 1_025;
+            elements * (loads + counts.others * 4_097 + patterns)
+        }
         _ => 0,
     };
     let expected = Ceiling { refusal, ceiling };
@@ -200,6 +210,108 @@ pub fn budget(
         outcome.refusal == 15
     };
     law(right, "another budget", call, outcome);
+}
+
+/// A conversion by one P code alone gives each element back whole or empty, for
+/// the price of its step: whole exactly where one of its patterns alone does. In
+/// an F code's parentheses the code gives the same.
+pub fn pattern_code(call: &ConvertCall, implementation: &Implementation, buffers: &mut Buffers) {
+    let Some(elements) = pattern_elements(call, implementation) else {
+        return;
+    };
+    let mut given = |code: &[u8]| given_back(call, code, &elements, implementation, buffers);
+    let (steps, kept) = given(&call.code);
+    let patterns = patterns(&call.code);
+    let tests: usize = patterns.iter().map(|pattern| tests(pattern).len()).sum();
+    let prices = elements.iter().zip(&kept);
+    let price: usize = prices
+        .map(|(element, &kept)| 1 + tests * (element.len() + 1) + kept)
+        .sum();
+    law(steps == price as u64, "the price of P", call, &steps);
+
+    let mut by_one = vec![0; elements.len()];
+    for pattern in patterns {
+        let (_, alone) = given(&[b"P", pattern].concat());
+        cut(call, pattern, &elements, &alone);
+        let most = by_one.iter().zip(alone).map(|(&one, other)| one.max(other));
+        by_one = most.collect();
+    }
+    law(kept == by_one, "several patterns", call, &(&kept, by_one));
+
+    let function = [b"F;LPV;(", call.code.as_slice(), b")"].concat();
+    if function.len() <= paper::CODE_LENGTH {
+        let pushed: usize = elements.iter().map(|element| 1 + element.len()).sum();
+        let in_function = given(&function);
+        let expected = (steps + pushed as u64, kept);
+        law(in_function == expected, "P inside F", call, &in_function);
+    }
+}
+
+/// A pattern alone leaves all of an element exactly if there is a cut: told of
+/// short elements and few tests, for which all cuts can be tried.
+fn cut(call: &ConvertCall, pattern: &[u8], elements: &[&[u8]], kept: &[usize]) {
+    let tests = tests(pattern);
+    for (element, &kept) in elements.iter().zip(kept) {
+        if element.len() <= 10 && tests.len() <= 5 {
+            let expected = match has_cut(element, &tests) {
+                true => element.len(),
+                false => 0,
+            };
+            law(kept == expected, "the cut of an element", call, &kept);
+        }
+    }
+}
+
+/// The elements that a call takes through one P code alone; `None` for another
+/// call, and for one that has an element over 1,024 or a long record.
+fn pattern_elements<'c>(
+    call: &'c ConvertCall,
+    implementation: &Implementation,
+) -> Option<Vec<&'c [u8]>> {
+    let alone = call.code.starts_with(b"P") && !call.code.contains(&paper::VALUE_MARK);
+    if !alone || call.record.len() > 4_096 {
+        return None;
+    }
+    let found = (implementation.find)(&call.record, call.at);
+    let checked = (implementation.check)(&call.code);
+    if (found.refusal, checked.refusal) != (0, 0) {
+        return None;
+    }
+    let elements = pieces(part(&call.record, &found));
+    let fit = elements.iter().all(|element| element.len() <= 1_024);
+    fit.then_some(elements)
+}
+
+/// The steps of converting by `code`, and how much it leaves of each of the
+/// elements: all or nothing.
+fn given_back(
+    call: &ConvertCall,
+    code: &[u8],
+    elements: &[&[u8]],
+    implementation: &Implementation,
+    buffers: &mut Buffers,
+) -> (u64, Vec<usize>) {
+    let call = ConvertCall {
+        code: code.to_vec(),
+        budget: u64::MAX,
+        output_length: call.record.len(),
+        scratch_length: SCRATCH_LENGTH,
+        ..call.clone()
+    };
+    let outcome = call.run(implementation, buffers);
+    law(outcome.refusal == 0, "P refuses nothing", &call, &outcome);
+    let answer = pieces(&buffers.output.after()[..outcome.length as usize]);
+    let mut pairs = answer.iter().zip(elements);
+    let whole_or_empty = pairs.all(|(kept, element)| kept.is_empty() || kept == element);
+    let all = answer.len() == elements.len();
+    law(all && whole_or_empty, "what P gives", &call, &outcome);
+    let kept = answer.iter().map(|kept| kept.len()).collect();
+    (outcome.steps, kept)
+}
+
+/// What stands between the marks of a part.
+fn pieces(part: &[u8]) -> Vec<&[u8]> {
+    part.split(|&byte| byte >= paper::LEAST_MARK).collect()
 }
 
 /// An accepted date has a day of the calendar, day 0 without a sign; a refused

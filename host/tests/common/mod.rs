@@ -8,5 +8,6 @@ pub mod coverage;
 pub mod examples;
 pub mod generator;
 pub mod laws;
+pub mod patterns;
 pub mod progress;
 pub mod vectors;

@@ -8,23 +8,37 @@ use sundewfrill_host::outcome::{Address, Check, Convert, Implementation};
 use sundewfrill_host::{fields, paper};
 
 use super::buffers::{all_zero, Buffers};
-use super::calls::{CheckCall, ConvertCall, DateCall, FindCall, ReplaceCall};
+use super::calls::{CeilingCall, CheckCall, ConvertCall, DateCall, FindCall, ReplaceCall};
 use super::laws;
 
-/// The files and how many rows each has.
-pub const FILES: [(&str, usize); 7] = [
-    ("find.tsv", 1_500),
-    ("replace.tsv", 1_500),
-    ("check.tsv", 2_500),
-    ("convert.tsv", 6_000),
-    ("give.tsv", 6_000),
-    ("date.tsv", 1_500),
-    ("program.tsv", 1_500),
+/// A stored file.
+struct File {
+    name: &'static str,
+    /// The call of all its rows; `None` if each row begins with the name of its
+    /// own.
+    call: Option<&'static str>,
+    rows: usize,
+}
+
+/// All stored files.
+const FILES: [File; 8] = [
+    file("find.tsv", Some("find"), 1_500),
+    file("replace.tsv", Some("replace"), 1_500),
+    file("check.tsv", Some("check"), 2_500),
+    file("convert.tsv", Some("convert"), 6_000),
+    file("give.tsv", Some("convert"), 6_000),
+    file("date.tsv", Some("date"), 1_500),
+    file("program.tsv", Some("program"), 1_500),
+    file("L1.tsv", None, 1_216),
 ];
+
+const fn file(name: &'static str, call: Option<&'static str>, rows: usize) -> File {
+    File { name, call, rows }
+}
 
 /// A row, its fields taken from the left.
 struct Row<'t> {
-    name: &'t str,
+    file: &'t str,
     number: usize,
     fields: std::str::Split<'t, char>,
 }
@@ -32,52 +46,62 @@ struct Row<'t> {
 impl<'t> Row<'t> {
     fn text(&mut self) -> &'t str {
         let field = self.fields.next();
-        field.unwrap_or_else(|| panic!("{} row {}: a field is missing", self.name, self.number))
+        field.unwrap_or_else(|| panic!("{} row {}: a field is missing", self.file, self.number))
     }
 
     fn bytes(&mut self) -> Vec<u8> {
         let field = self.text();
-        fields::read(field).unwrap_or_else(|| panic!("{} row {}: no hex", self.name, self.number))
+        fields::read(field).unwrap_or_else(|| panic!("{} row {}: no hex", self.file, self.number))
     }
 
     fn number<N: FromStr>(&mut self) -> N {
         let field = self.text();
         let number = field.parse().ok();
-        number.unwrap_or_else(|| panic!("{} row {}: no number", self.name, self.number))
+        number.unwrap_or_else(|| panic!("{} row {}: no number", self.file, self.number))
     }
 
     fn address(&mut self) -> Address {
         Address::new(self.number(), self.number(), self.number())
     }
+
+    /// Passes over all fields that are left.
+    fn skip(&mut self) {
+        self.fields.by_ref().for_each(drop);
+    }
 }
 
-/// Goes over all rows of a file, collects where the implementation differs, and
-/// fails if it does.
-fn rows(name: &str, implementation: &str, mut differs: impl FnMut(&mut Row) -> Option<String>) {
+/// Goes over all rows of a file with the names of their calls, collects where
+/// they differ from what `implementation` gives, and fails if they do.
+fn rows(
+    file: &File,
+    implementation: &str,
+    mut differs: impl FnMut(&str, &mut Row) -> Option<String>,
+) {
     let path = Path::new(env!("CARGO_MANIFEST_DIR"))
         .join("tests/vectors")
-        .join(name);
+        .join(file.name);
     let text = fs::read_to_string(path).expect("the vectors stand in tests/vectors");
     let mut count = 0;
     let mut differences = Vec::new();
     for (line, number) in text.lines().zip(1..) {
-        let fields = line.split('\t');
         let mut row = Row {
-            name,
+            file: file.name,
             number,
-            fields,
+            fields: line.split('\t'),
         };
-        if let Some(difference) = differs(&mut row) {
-            differences.push(format!("{name} row {number}: {difference}"));
+        let call = file.call.unwrap_or_else(|| row.text());
+        if let Some(difference) = differs(call, &mut row) {
+            differences.push(format!("{} row {number}: {difference}", file.name));
         }
+        let end = row.fields.next();
         assert!(
-            row.fields.next().is_none(),
-            "{name} row {number}: a field too many"
+            end.is_none(),
+            "{} row {number}: a field too many",
+            file.name
         );
         count += 1;
     }
-    let expected = FILES.iter().find(|file| file.0 == name).map(|file| file.1);
-    assert_eq!(Some(count), expected, "the number of rows in {name}");
+    assert_eq!(count, file.rows, "the number of rows in {}", file.name);
     assert!(
         differences.is_empty(),
         "{implementation} differs in {} of {count} rows:\n{}",
@@ -86,115 +110,145 @@ fn rows(name: &str, implementation: &str, mut differs: impl FnMut(&mut Row) -> O
     );
 }
 
+/// All rows of one file by an implementation.
+pub fn run(name: &str, implementation: &Implementation) {
+    let file = FILES.iter().find(|file| file.name == name);
+    let file = file.expect("the file is one of those that are stored");
+    let mut buffers = Buffers::default();
+    rows(file, implementation.name, |call, row| match call {
+        "find" => find(row, implementation),
+        "replace" => replace(row, implementation, &mut buffers),
+        "check" => check(row, implementation),
+        "convert" => convert(row, implementation, &mut buffers),
+        "ceilingof" => ceiling(row, implementation),
+        "date" => date(row, implementation),
+        "program" => program(row, |input| {
+            paper::program_with(input, implementation.convert)
+        }),
+        _ => panic!("{name} row {}: no call is named {call}", row.number),
+    });
+}
+
+/// The program's rows of all files, by whatever turns input into output.
+pub fn programs(name: &str, mut by: impl FnMut(&[u8]) -> Vec<u8>) {
+    for file in &FILES {
+        rows(file, name, |call, row| match call {
+            "program" => program(row, &mut by),
+            _ => {
+                row.skip();
+                None
+            }
+        });
+    }
+}
+
 /// `None` if both are the same, else both in words.
 fn unlike<T: PartialEq + std::fmt::Debug>(given: T, expected: T) -> Option<String> {
     (given != expected).then(|| format!("gave {given:?}, expected {expected:?}"))
 }
 
-/// find.tsv
-pub fn find(implementation: &Implementation) {
-    rows("find.tsv", implementation.name, |row| {
-        let call = FindCall {
-            record: row.bytes(),
-            at: row.address(),
-        };
-        let expected = (row.number(), row.number(), row.bytes());
-        let outcome = call.run(implementation);
-        let (start, length) = (outcome.start as usize, outcome.length as usize);
-        let part = call.record[start..start + length].to_vec();
-        unlike((outcome.refusal, outcome.found, part), expected)
-    });
+fn find(row: &mut Row, implementation: &Implementation) -> Option<String> {
+    let call = FindCall {
+        record: row.bytes(),
+        at: row.address(),
+    };
+    let expected = (row.number(), row.number(), row.bytes());
+    let outcome = call.run(implementation);
+    let (start, length) = (outcome.start as usize, outcome.length as usize);
+    let part = call.record[start..start + length].to_vec();
+    unlike((outcome.refusal, outcome.found, part), expected)
 }
 
-/// replace.tsv, the output dirty before the call.
-pub fn replace(implementation: &Implementation) {
-    let mut buffers = Buffers::default();
-    rows("replace.tsv", implementation.name, |row| {
-        let call = ReplaceCall {
-            record: row.bytes(),
-            at: row.address(),
-            new: row.bytes(),
-            output_length: row.number(),
-        };
-        let expected = (row.number(), row.number(), row.bytes(), true);
-        let outcome = call.run(implementation, &mut buffers);
-        let (answer, behind) = buffers.output.after().split_at(outcome.length as usize);
-        let clear = all_zero(behind);
-        unlike(
-            (outcome.refusal, outcome.length, answer.to_vec(), clear),
-            expected,
-        )
-    });
+/// The output is dirty before the call.
+fn replace(
+    row: &mut Row,
+    implementation: &Implementation,
+    buffers: &mut Buffers,
+) -> Option<String> {
+    let call = ReplaceCall {
+        record: row.bytes(),
+        at: row.address(),
+        new: row.bytes(),
+        output_length: row.number(),
+    };
+    let expected = (row.number(), row.number(), row.bytes(), true);
+    let outcome = call.run(implementation, buffers);
+    let (answer, behind) = buffers.output.after().split_at(outcome.length as usize);
+    let clear = all_zero(behind);
+    unlike(
+        (outcome.refusal, outcome.length, answer.to_vec(), clear),
+        expected,
+    )
 }
 
-/// check.tsv
-pub fn check(implementation: &Implementation) {
-    rows("check.tsv", implementation.name, |row| {
-        let call = CheckCall { code: row.bytes() };
-        let expected = Check {
-            refusal: row.number(),
-            code_number: row.number(),
-            loads: row.number(),
-            others: row.number(),
-        };
-        unlike(call.run(implementation), expected)
-    });
+fn check(row: &mut Row, implementation: &Implementation) -> Option<String> {
+    let call = CheckCall { code: row.bytes() };
+    let expected = Check {
+        refusal: row.number(),
+        code_number: row.number(),
+        loads: row.number(),
+        others: row.number(),
+        patterns: row.number(),
+        tests: row.number(),
+    };
+    unlike(call.run(implementation), expected)
 }
 
-/// convert.tsv or give.tsv, output and scratch dirty before the call. The ceiling
-/// of each call must suit what the row expects.
-pub fn convert(name: &str, implementation: &Implementation) {
-    let mut buffers = Buffers::default();
-    rows(name, implementation.name, |row| {
-        let call = ConvertCall {
-            record: row.bytes(),
-            code: row.bytes(),
-            at: row.address(),
-            budget: row.number(),
-            output_length: row.number(),
-            scratch_length: row.number(),
-        };
-        let expected = Convert {
-            refusal: row.number(),
-            steps: row.number(),
-            length: row.number(),
-        };
-        let ceiling = call.ceiling().run(implementation);
-        let within = laws::is_within(&expected, &ceiling);
-        let expected = (expected, row.bytes(), true, (ceiling, true));
-        let outcome = call.run(implementation, &mut buffers);
-        let (answer, behind) = buffers.output.after().split_at(outcome.length as usize);
-        let clear = all_zero(behind) && all_zero(buffers.scratch.after());
-        let given = (outcome, answer.to_vec(), clear, (ceiling, within));
-        unlike(given, expected)
-    });
+/// Output and scratch are dirty before the call. The ceiling of the call must
+/// suit what the row expects.
+fn convert(
+    row: &mut Row,
+    implementation: &Implementation,
+    buffers: &mut Buffers,
+) -> Option<String> {
+    let call = ConvertCall {
+        record: row.bytes(),
+        code: row.bytes(),
+        at: row.address(),
+        budget: row.number(),
+        output_length: row.number(),
+        scratch_length: row.number(),
+    };
+    let expected = Convert {
+        refusal: row.number(),
+        steps: row.number(),
+        length: row.number(),
+    };
+    let ceiling = call.ceiling().run(implementation);
+    let within = laws::is_within(&expected, &ceiling);
+    let expected = (expected, row.bytes(), true, (ceiling, true));
+    let outcome = call.run(implementation, buffers);
+    let (answer, behind) = buffers.output.after().split_at(outcome.length as usize);
+    let clear = all_zero(behind) && all_zero(buffers.scratch.after());
+    let given = (outcome, answer.to_vec(), clear, (ceiling, within));
+    unlike(given, expected)
 }
 
-/// date.tsv
-pub fn date(implementation: &Implementation) {
-    rows("date.tsv", implementation.name, |row| {
-        let call = DateCall {
-            code: row.bytes(),
-            text: row.bytes(),
-        };
-        let expected = (row.number(), row.number());
-        let outcome = call.run(implementation);
-        unlike((outcome.refusal, outcome.day()), expected)
-    });
+/// The ceiling alone: 0 where it is refused. Its number of refusal must be the one
+/// that checking and finding give.
+fn ceiling(row: &mut Row, implementation: &Implementation) -> Option<String> {
+    let call = CeilingCall {
+        record: row.bytes(),
+        code: row.bytes(),
+        at: row.address(),
+    };
+    let outcome = call.run(implementation);
+    laws::ceiling(&call, &outcome, implementation);
+    unlike(outcome.ceiling, row.number())
 }
 
-/// program.tsv, the program around this implementation's converting.
-pub fn program(implementation: &Implementation) {
-    program_by(implementation.name, |input| {
-        paper::program_with(input, implementation.convert)
-    });
+fn date(row: &mut Row, implementation: &Implementation) -> Option<String> {
+    let call = DateCall {
+        code: row.bytes(),
+        text: row.bytes(),
+    };
+    let expected = (row.number(), row.number());
+    let outcome = call.run(implementation);
+    unlike((outcome.refusal, outcome.day()), expected)
 }
 
-/// program.tsv, by whatever turns the input into the output.
-pub fn program_by(name: &str, mut program: impl FnMut(&[u8]) -> Vec<u8>) {
-    rows("program.tsv", name, |row| {
-        let input = row.bytes();
-        let expected = row.bytes();
-        unlike(program(&input), expected)
-    });
+fn program(row: &mut Row, by: impl FnOnce(&[u8]) -> Vec<u8>) -> Option<String> {
+    let input = row.bytes();
+    let expected = row.bytes();
+    unlike(by(&input), expected)
 }

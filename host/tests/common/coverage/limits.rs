@@ -9,7 +9,9 @@ use super::super::buffers::Buffers;
 use super::super::calls::{
     CeilingCall, CheckCall, ConvertCall, DateCall, FindCall, ReplaceCall, PAPER,
 };
+use super::super::generator::NEAR_MISSES;
 use super::super::laws::{came_to_end, DAYS};
+use super::patterns::{PASSES, PATTERN_STRINGS};
 use super::steps::{deepest, STEPS};
 use super::Coverage;
 
@@ -29,7 +31,7 @@ impl Coverage {
 
     /// Fails unless checking has reached everything.
     pub fn require_of_check(&self) {
-        self.require("check", &[5, 6, 7], &[&STEPS.concat(), &STRINGS]);
+        self.require("check", &[5, 6, 7], &[&STEPS.concat(), &strings()]);
     }
 
     /// Fails unless converting has reached everything.
@@ -37,14 +39,14 @@ impl Coverage {
         let refusals: Vec<u64> = (1..=16).collect();
         let steps = STEPS.concat();
         let ends = [NUMBER_ENDS, RESULT_ENDS, DAY_ENDS].concat();
-        let tags: [&[&str]; 5] = [&steps, &PLACES, &STRINGS, &CONVERTS, &ends];
+        let tags: [&[&str]; 6] = [&steps, &PLACES, &strings(), &CONVERTS, &ends, &PASSES];
         self.require("convert", &refusals, &tags);
     }
 
     /// Fails unless the ceiling has reached everything.
     pub fn require_of_ceiling(&self) {
         let refusals: Vec<u64> = (1..=7).collect();
-        let tags: [&[&str]; 4] = [&STEPS.concat(), &PLACES, &STRINGS, &CEILINGS];
+        let tags: [&[&str]; 4] = [&STEPS.concat(), &PLACES, &strings(), &CEILINGS];
         self.require("ceiling", &refusals, &tags);
     }
 
@@ -52,6 +54,11 @@ impl Coverage {
     pub fn require_of_date(&self) {
         self.require("date", &[5, 6, 12], &[&DATES]);
     }
+}
+
+/// What code strings must reach.
+fn strings() -> Vec<&'static str> {
+    [STRINGS.as_slice(), &PATTERN_STRINGS, &NEAR_MISSES].concat()
 }
 
 const PLACES: [&str; 12] = [
@@ -82,10 +89,10 @@ const CEILINGS: [&str; 8] = [
     "element of 1,024 let in",
     "element of 1,025 let in",
 ];
-const DATES: [&str; 13] = [
+const DATES: [&str; 14] = [
     "code string of 512", "code string of 513", "typed with s", "typed without s",
     "year of 2 digits", "year of 4 digits", "year 29", "year 30", "day 0 typed", "first day typed",
-    "last day typed", "typed before the first", "typed after the last",
+    "last day typed", "typed before the first", "typed after the last", "typed for a P code",
 ];
 
 /// One before a range, its first, its last, and one after it.
@@ -166,6 +173,7 @@ impl Coverage {
         let part = &call.record[found.start as usize..][..found.length as usize];
         if part.iter().all(|&byte| byte < LEAST_MARK) {
             self.element(&call.code, part, refusal);
+            self.pattern_code(&call.code, part, refusal);
         }
         self.tag_if(accepted && found.found == 0, "missing place");
         let longest = call.record.len() == 32_768;
@@ -205,6 +213,10 @@ impl Coverage {
         self.refusal(refusal);
         self.tag_if(refusal == 6 && call.code.len() == 512, "code string of 512");
         self.tag_if(refusal == 5 && call.code.len() == 513, "code string of 513");
+        self.tag_until("typed for a P code", || {
+            let pattern_code = refusal == 6 && call.code.starts_with(b"P(");
+            pattern_code && paper::check(&call.code).refusal == 0
+        });
         let (front, year) = call.text.split_at(before_digits(&call.text));
         self.tag_if(accepted && year.len() == 2, "year of 2 digits");
         self.tag_if(accepted && year.len() == 4, "year of 4 digits");
@@ -269,6 +281,7 @@ impl Coverage {
         self.tag_until("entry not there", || {
             refusal == 7 && deepest(code).is_none()
         });
+        self.pattern_string(code, refusal);
     }
 
     /// Notes how far budget, output and scratch of a converting reach.

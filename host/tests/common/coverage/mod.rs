@@ -1,7 +1,8 @@
 //! What generated calls have reached: every refusal, every code letter, every
-//! elm, every mask option, every limit on both sides.
+//! elm, every mask option, every kind of test, every limit on both sides.
 
 mod limits;
+mod patterns;
 mod steps;
 
 use std::collections::BTreeSet;

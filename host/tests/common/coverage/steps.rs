@@ -7,6 +7,7 @@ use sundewfrill_host::paper::grammar::{
 };
 use sundewfrill_host::paper::{STACK_DEPTH, VALUE_MARK};
 
+use super::patterns::{pattern_tags, PATTERNS};
 use super::Coverage;
 
 impl Coverage {
@@ -21,9 +22,9 @@ impl Coverage {
                 Ok(Some(elms)) => self.function(elms),
                 _ => {
                     let codes = grammar::read(code).expect("the string was accepted");
-                    for code in codes {
-                        if let grammar::Code::Conversion(conversion) = code {
-                            self.tags.extend(code_tags(conversion));
+                    for parsed in codes {
+                        if let grammar::Code::Conversion(conversion) = parsed {
+                            self.tags.extend(code_tags(&conversion, code));
                         }
                     }
                 }
@@ -33,12 +34,15 @@ impl Coverage {
 
     fn function(&mut self, mut elms: grammar::Elms) {
         loop {
-            let quote = elms.rest().get(1).copied();
+            let before = elms.rest();
             match elms.next() {
                 Some(Ok(elm)) => {
-                    self.tags.insert(elm_tag(elm, quote));
-                    if let Elm::Convert(conversion) = elm {
-                        self.tags.extend(code_tags(conversion));
+                    // Without the `;` in front of it.
+                    let text = &before[1..before.len() - elms.rest().len()];
+                    self.tags.insert(elm_tag(&elm, text[0]));
+                    if let Elm::Convert(conversion) = &elm {
+                        let code = &text[1..text.len() - 1];
+                        self.tags.extend(code_tags(conversion, code));
                     }
                 }
                 _ => break,
@@ -55,7 +59,7 @@ pub fn deepest(string: &[u8]) -> Option<usize> {
     for code in string.split(|&byte| byte == VALUE_MARK) {
         let mut depth: usize = 0;
         for elm in grammar::elms(code).ok().flatten().into_iter().flatten() {
-            let (takes, puts) = grammar::entries(elm.ok()?);
+            let (takes, puts) = grammar::entries(&elm.ok()?);
             depth = depth.checked_sub(takes)? + puts;
             deepest = deepest.max(depth);
             if depth > STACK_DEPTH {
@@ -67,7 +71,7 @@ pub fn deepest(string: &[u8]) -> Option<usize> {
 }
 
 /// What an elm is; `first` is its first byte.
-fn elm_tag(elm: Elm, first: Option<u8>) -> &'static str {
+fn elm_tag(elm: &Elm, first: u8) -> &'static str {
     use grammar::{Operator, Relation, Which};
     match elm {
         Elm::Load(load) if load.attribute == 0 => "elm 0",
@@ -76,12 +80,12 @@ fn elm_tag(elm: Elm, first: Option<u8>) -> &'static str {
             Which::FirstValue => "elm nR",
             Which::First => "elm nRR",
         },
-        Elm::Literal(_) if first == Some(b'"') => "elm in double quotes",
+        Elm::Literal(_) if first == b'"' => "elm in double quotes",
         Elm::Literal(_) => "elm in single quotes",
         Elm::Previous => "elm LPV",
         Elm::Arithmetic(operator) => match operator {
             Operator::Multiply(None) => "elm *",
-            Operator::Multiply(Some(digit)) => TIMES[usize::from(digit)],
+            Operator::Multiply(Some(digit)) => TIMES[usize::from(*digit)],
             Operator::Divide => "elm /",
             Operator::Remainder => "elm R",
             Operator::Add => "elm +",
@@ -108,12 +112,13 @@ fn elm_tag(elm: Elm, first: Option<u8>) -> &'static str {
             Conversion::FromHex => "elm (MY)",
             Conversion::Mask(_) => "elm (ML) or (MR)",
             Conversion::Date(_) => "elm (D)",
+            Conversion::Pattern(_) => "elm (P)",
         },
     }
 }
 
-/// What a code other than F has in it.
-fn code_tags(conversion: Conversion) -> Vec<&'static str> {
+/// What a code other than F has in it, and in its text.
+fn code_tags(conversion: &Conversion, text: &[u8]) -> Vec<&'static str> {
     match conversion {
         Conversion::Group(Group { skip: None, .. }) => vec!["G without skip"],
         Conversion::Group(Group { skip: Some(_), .. }) => vec!["G with skip"],
@@ -133,8 +138,9 @@ fn code_tags(conversion: Conversion) -> Vec<&'static str> {
         }],
         Conversion::ToHex => vec!["MX"],
         Conversion::FromHex => vec!["MY"],
-        Conversion::Mask(mask) => mask_tags(mask),
-        Conversion::Date(form) => date_tags(form),
+        Conversion::Mask(mask) => mask_tags(*mask),
+        Conversion::Date(form) => date_tags(*form),
+        Conversion::Pattern(_) => pattern_tags(text),
     }
 }
 
@@ -195,13 +201,13 @@ const SCALES: [&str; 10] = [
 const DATES: [&str; 5] = ["D0", "D1", "D2", "D3", "D4"];
 
 /// Every kind of step that an accepted string can have.
-pub const STEPS: [&[&str]; 6] = [&TIMES, &DECIMALS, &SCALES, &DATES, &ELMS, &CODES];
+pub const STEPS: [&[&str]; 7] = [&TIMES, &DECIMALS, &SCALES, &DATES, &PATTERNS, &ELMS, &CODES];
 
-const ELMS: [&str; 31] = [
+const ELMS: [&str; 32] = [
     "elm 0", "elm n", "elm nR", "elm nRR", "elm in single quotes", "elm in double quotes",
     "elm LPV", "elm *", "elm /", "elm R", "elm +", "elm -", "elm :", "elm []", "elm _", "elm P",
     "elm =", "elm #", "elm >", "elm <", "elm ]", "elm [", "elm (G)", "elm (T)", "elm (L)",
-    "elm (MC)", "elm (MX)", "elm (MY)", "elm (ML) or (MR)", "elm (D)", "no codes",
+    "elm (MC)", "elm (MX)", "elm (MY)", "elm (ML) or (MR)", "elm (D)", "elm (P)", "no codes",
 ];
 const CODES: [&str; 36] = [
     "G without skip", "G with skip", "Tn", "Tm,n", "L", "Ln", "Ln,m", "MCA", "MC/A", "MCN", "MC/N",

@@ -1,11 +1,14 @@
 //! Code strings: by the grammar, then sometimes damaged.
 
 use super::elements::{self, Kind};
-use super::Rng;
+use super::{patterns, Rng};
 use sundewfrill_host::paper::{CODE_LENGTH, STACK_DEPTH, VALUE_MARK};
 
 /// A code string and the kind of elements that suits its first code.
 pub fn string(rng: &mut Rng) -> (Vec<u8>, Kind) {
+    if rng.one_in(50) {
+        return (patterns::near_miss(rng), Kind::Text);
+    }
     let count = match rng.below(40) {
         0 => 0,
         1..=28 => 1,
@@ -60,11 +63,11 @@ fn stretch(rng: &mut Rng, string: &mut Vec<u8>) {
 }
 
 fn code(rng: &mut Rng) -> (Vec<u8>, Kind) {
-    if rng.one_in(3) {
-        let kind = *rng.pick(&[Kind::Number, Kind::Number, Kind::Any]);
-        (function(rng), kind)
-    } else {
-        conversion(rng)
+    match rng.below(30) {
+        0 => patterns::function(rng),
+        1..=9 if rng.one_in(3) => (function(rng), Kind::Any),
+        1..=9 => (function(rng), Kind::Number),
+        _ => conversion(rng),
     }
 }
 
@@ -155,8 +158,8 @@ fn literal(rng: &mut Rng) -> Vec<u8> {
     let mut content = match rng.below(12) {
         0 => Vec::new(),
         1 => b";)".to_vec(),
-        2 => elements::element(rng, Kind::Text),
-        3 => elements::element(rng, Kind::Any),
+        2 => elements::element(rng, &Kind::Text),
+        3 => elements::element(rng, &Kind::Any),
         4 => vec![b'x'; rng.small(300) as usize],
         _ => elements::number(rng),
     };
@@ -167,7 +170,7 @@ fn literal(rng: &mut Rng) -> Vec<u8> {
 
 /// A code other than F and the kind of elements that suits it.
 fn conversion(rng: &mut Rng) -> (Vec<u8>, Kind) {
-    match rng.below(16) {
+    match rng.below(18) {
         0 | 1 => (group(rng), Kind::Fields),
         2 => (cut(rng), Kind::Text),
         3 => (length_code(rng), Kind::Text),
@@ -175,12 +178,11 @@ fn conversion(rng: &mut Rng) -> (Vec<u8>, Kind) {
             let letters = *rng.pick(&["A", "/A", "N", "/N", "U", "L", "T"]);
             (format!("MC{letters}").into_bytes(), Kind::Text)
         }
-        6 => (
-            b"MX".to_vec(),
-            *rng.pick(&[Kind::Text, Kind::Text, Kind::Long]),
-        ),
+        6 if rng.one_in(3) => (b"MX".to_vec(), Kind::Long),
+        6 => (b"MX".to_vec(), Kind::Text),
         7 => (b"MY".to_vec(), Kind::Hex),
         8..=11 => (date_code(rng), Kind::Day),
+        12 | 13 => patterns::code(rng),
         _ => (mask(rng), Kind::Number),
     }
 }

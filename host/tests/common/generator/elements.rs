@@ -3,7 +3,7 @@
 use super::Rng;
 
 /// What an element is good for.
-#[derive(Clone, Copy, Debug, PartialEq, Eq)]
+#[derive(Clone, Debug, PartialEq, Eq)]
 pub enum Kind {
     /// Anything.
     Any,
@@ -19,9 +19,11 @@ pub enum Kind {
     Text,
     /// Lengths about 512 and 1,024.
     Long,
+    /// P: one of these, or one that a byte parts from it.
+    Like(Vec<Vec<u8>>),
 }
 
-const KINDS: [Kind; 6] = [
+static KINDS: [Kind; 6] = [
     Kind::Number,
     Kind::Number,
     Kind::Day,
@@ -31,11 +33,11 @@ const KINDS: [Kind; 6] = [
 ];
 
 /// An element, mostly of this kind; without marks.
-pub fn element(rng: &mut Rng, kind: Kind) -> Vec<u8> {
+pub fn element(rng: &mut Rng, kind: &Kind) -> Vec<u8> {
     let kind = match kind {
-        Kind::Any if rng.one_in(40) => Kind::Long,
-        Kind::Any => *rng.pick(&KINDS),
-        _ if rng.one_in(25) => *rng.pick(&KINDS),
+        Kind::Any if rng.one_in(40) => &Kind::Long,
+        Kind::Any => rng.pick(&KINDS),
+        _ if rng.one_in(25) => rng.pick(&KINDS),
         kind => kind,
     };
     if rng.one_in(15) {
@@ -48,6 +50,7 @@ pub fn element(rng: &mut Rng, kind: Kind) -> Vec<u8> {
         Kind::Fields => separated(rng),
         Kind::Text => text(rng),
         Kind::Long => long(rng),
+        Kind::Like(texts) => like(rng, texts),
     }
 }
 
@@ -185,6 +188,21 @@ fn text(rng: &mut Rng) -> Vec<u8> {
             .map(|_| *rng.pick(b"abcXYZ019 -_.@[`{\x80\xe4\xfa"))
             .collect(),
     }
+}
+
+/// One of these texts, sometimes with a byte changed, put in or taken out.
+fn like(rng: &mut Rng, texts: &[Vec<u8>]) -> Vec<u8> {
+    let mut text = rng.pick(texts).clone();
+    let byte = *rng.pick(b"a1-b0Z \xe4");
+    let place = rng.place(text.len());
+    let inside = place < text.len();
+    match rng.below(9) {
+        0 => text.insert(place, byte),
+        1 if inside => drop(text.remove(place)),
+        2 if inside => text[place] = byte,
+        _ => {}
+    }
+    text
 }
 
 /// Text about the lengths at which something changes.

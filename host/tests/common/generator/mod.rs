@@ -7,6 +7,7 @@
 mod codes;
 mod dates;
 mod elements;
+mod patterns;
 mod records;
 mod rng;
 
@@ -16,18 +17,19 @@ use sundewfrill_host::{paper, Refusal, SCRATCH_LENGTH};
 use super::buffers::Buffers;
 use super::calls::{CeilingCall, CheckCall, ConvertCall, DateCall, FindCall, ReplaceCall, PAPER};
 pub use elements::Kind;
+pub use patterns::NEAR_MISSES;
 pub use rng::Rng;
 
 /// A call of finding.
 pub fn find(rng: &mut Rng) -> FindCall {
-    let record = records::record(rng, Kind::Any);
+    let record = records::record(rng, &Kind::Any);
     let at = records::address(rng, &record);
     FindCall { record, at }
 }
 
 /// A call of replacing. The output is often just long enough, or just not.
 pub fn replace(rng: &mut Rng, buffers: &mut Buffers) -> ReplaceCall {
-    let record = records::record(rng, Kind::Any);
+    let record = records::record(rng, &Kind::Any);
     let at = records::address(rng, &record);
     let new = new_element(rng, at);
     let mut call = ReplaceCall {
@@ -55,7 +57,7 @@ fn new_element(rng: &mut Rng, at: Address) -> Vec<u8> {
         1 => elements::of_length(rng, &[1_023, 1_024, 1_025, 1_300]),
         2 if rng.one_in(50) => elements::of_length(rng, &[65_536, 65_540]),
         3..=5 if at.a == 0 => elements::of_length(rng, &[47, 48, 49]),
-        _ => elements::element(rng, Kind::Any),
+        _ => elements::element(rng, &Kind::Any),
     };
     if rng.one_in(20) {
         let mark = rng.between(251, 255) as u8;
@@ -107,7 +109,7 @@ pub fn convert(rng: &mut Rng, buffers: &mut Buffers) -> ConvertCall {
 fn suited(rng: &mut Rng) -> (Vec<u8>, Vec<u8>, Address) {
     let (code, kind) = codes::string(rng);
     let kind = if rng.one_in(6) { Kind::Any } else { kind };
-    let record = records::record(rng, kind);
+    let record = records::record(rng, &kind);
     let at = records::address(rng, &record);
     (record, code, at)
 }
@@ -203,7 +205,9 @@ fn vast_run(rng: &mut Rng) -> (Vec<u8>, Vec<u8>, Address) {
     record.push(paper::ATTRIBUTE_MARK);
     let mark = *rng.pick(&[paper::VALUE_MARK, paper::SUBVALUE_MARK]);
     record.resize(paper::RECORD_LENGTH, mark);
-    let one = *rng.pick(&["L", "F;1", "F;0RR", "F;LPV;1", "F;1;2;3;4;5;6;7;8"]);
+    let one = *rng.pick(&[
+        "L", "F;1", "F;0RR", "F;LPV;1", "F;1;2;3;4;5;6;7;8", "P(1N)", "F;1;(P(0N'a'))",
+    ]);
     let most = (paper::CODE_LENGTH + 1) / (one.len() + 1);
     let count = rng.between(1, most as u64) as usize;
     let code = vec![one.as_bytes(); count].join(&paper::VALUE_MARK);

@@ -9,7 +9,7 @@ use super::Rng;
 const MARKS: [u8; 3] = [ATTRIBUTE_MARK, VALUE_MARK, SUBVALUE_MARK];
 
 /// A record with elements mostly of this kind.
-pub fn record(rng: &mut Rng, kind: Kind) -> Vec<u8> {
+pub fn record(rng: &mut Rng, kind: &Kind) -> Vec<u8> {
     let mut record = match rng.below(600) {
         0 => vast(rng, kind),
         1..=3 => many_empty(rng),
@@ -35,7 +35,7 @@ pub fn record(rng: &mut Rng, kind: Kind) -> Vec<u8> {
     record
 }
 
-fn id(rng: &mut Rng, kind: Kind) -> Vec<u8> {
+fn id(rng: &mut Rng, kind: &Kind) -> Vec<u8> {
     match rng.below(6) {
         0 => Vec::new(),
         1 => {
@@ -49,7 +49,7 @@ fn id(rng: &mut Rng, kind: Kind) -> Vec<u8> {
 }
 
 /// A mark and attributes.
-fn add_body(rng: &mut Rng, kind: Kind, record: &mut Vec<u8>) {
+fn add_body(rng: &mut Rng, kind: &Kind, record: &mut Vec<u8>) {
     let (attributes, values, subvalues) =
         *rng.pick(&[(6, 1, 1), (5, 4, 1), (4, 3, 3), (3, 1, 5), (2, 12, 2)]);
     for _ in 0..=rng.below(attributes) {
@@ -90,7 +90,7 @@ fn many_empty(rng: &mut Rng) -> Vec<u8> {
 }
 
 /// A record at or about the greatest length.
-fn vast(rng: &mut Rng, kind: Kind) -> Vec<u8> {
+fn vast(rng: &mut Rng, kind: &Kind) -> Vec<u8> {
     let length = *rng.pick(&[
         32_766, 32_767, 32_768, 32_768, 32_768, 32_768, 32_769, 32_769, 32_769, 32_769, 40_000,
         65_540,
