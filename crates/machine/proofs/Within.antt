@@ -19,10 +19,9 @@ use Rattle.codes.specs.declared.Fill.{Fill}
 use Rattle.codes.specs.Meaning.{fill-of, mask-of}
 use Rattle.codes.specs.Counting.{patterns-counted}
 use Rattle.masks.specs.Bounds.{field-width}
-use Rattle.readers.specs.Places.{Placed, byte-at, after, follow, gives, this, flag, num, numeral, closing, enclosed, quoted}
-use Rattle.codes.specs.declared.Operand.{Operand as Pushed}
-use Rattle.codes.specs.declared.Elm.{Elm as Coded}
+use Rattle.readers.specs.Places.{Placed, byte-at, after, this, flag, num, numeral}
 use Rattle.readers.specs.Reading as place
+use Rattle.readers.proofs.Quotes.{quoted-inside}
 use Rattle.readers.proofs.Ever.{Ever, follow-then, follow-any, or-then, or-any, only-then, choose-reads, digit-reads}
 pub use Rattle.readers.proofs.Ever.{read-has}
 use Rattle.grammar.specs.Reading as elms
@@ -119,27 +118,9 @@ module _ (s : Bytes) (short : length s ≤ code-most) where
       (and-all patterns-read none-of))))))
       (λ n. reads-not)
 
-  -- a quote closes at a byte from here on
-  closes : (q : ℕ) (bs : Bytes) (at close : ℕ) → closing q bs at ≡ some close → (at ≤ close) × (close < at + length bs)
-  unfolding closing
-  closes q [] at close e = let z : _≡_ {A = ℕ} 0 1 = cc in absurd (omega arith)
-  closes q (b ∷ bs) at close e = here (eqb b q) e (closes q bs (suc at) close)
-    where
-      here : (t : Bool) → (if t then some at else closing q bs (suc at)) ≡ some close
-          → (closing q bs (suc at) ≡ some close → (suc at ≤ close) × (close < suc at + length bs)) → (at ≤ close) × (close < at + length (b ∷ bs))
-      here true e again = let same : at ≡ close = cc in omega arith
-      here false e again = let h = again e in omega arith
-
   literal-reads : (q : ℕ) → Ever (Elm-within s) s (elms.literal-elm q)
-  unfolding elms.literal-elm quoted
-  literal-reads q n = placed (closing q (drop n s) n) refl
-    where
-      placed : (o : Option ℕ) → closing q (drop n s) n ≡ o
-          → Reads (Elm-within s) (follow (enclosed n o) (λ len. gives (Coded.Push (Pushed.Literal n len))) s)
-      placed none e = reads-not
-      placed (some close) e =
-          let h = closes q (drop n s) n close e in
-          reads (push-within (literal-within {start = n} {len = close - n} (omega (arith, length-drop n s))))
+  unfolding elms.literal-elm
+  literal-reads q n = follow-then _ (quoted-inside q s n) (λ len h k. reads (push-within (literal-within h)))
 
   -- the elms of one byte
   single-reads : Ever (Elm-within s) s elms.single-elm

@@ -1,16 +1,16 @@
 -- Patterns tried test by test, and one after the other: what is told of those still to be read is told of all. Assumes nothing.
-use Prim.Native.Nat.{ℕ, zero, suc, _+_, _-_, _≤_, _<_}
+use Prim.Native.Nat.{ℕ, zero, suc, _+_, _≤_, _<_}
 use native.Mathlib.Omega.{arith}
 use mathlib.Core.Path.{_≡_, refl, sym, ap, _∙_}
 use mathlib.Core.Bool.{Bool, true, false}
 use mathlib.Core.Logic.{⊎-elim}
 use mathlib.Core.List.{List, [], _∷_}
 use mathlib.Core.Option.{Option, none, some}
-use lib.ListN.{length, take, drop, getD, set, replicate, length-drop, length-replicate}
-use lib.Seq.{getD-set-same, getD-set-other, take-length, length-take-le}
+use lib.ListN.{length, take, drop, getD, set, replicate, length-replicate}
+use lib.Seq.{getD-set-same, getD-set-other, length-take-le}
 use lib.Dec.{eqb}
 use borrow.Author.Tests.{eqb-true, eqb-false, ne-eqb}
-use Rattle.paper.specs.Bytes.{Bytes, if_then_else_}
+use Rattle.paper.specs.Bytes.{Bytes}
 use Rattle.paper.specs.Sizes.{entry-most}
 use Rattle.paper.specs.Refusals.{given}
 use Rattle.paper.specs.Steps.{limited}
@@ -21,16 +21,17 @@ use Rattle.paper.specs.Patterns.{passes, some-passes, patterns-give}
 use Rattle.paper.proofs.Patterns.{cut-by, passes-from, nothing, passes-forward}
 use Rattle.paper.proofs.Truths.{ltb-or}
 use Rattle.paper.proofs.Limits.{limited-within, Answered, gives-bytes}
-use Rattle.paper.proofs.Predicates.{Reads, reads, reads-not, reads-either}
+use Rattle.paper.proofs.Predicates.{reads, reads-not, none-of, and-all}
 use Rattle.lent.specs.Over.{over}
 use Rattle.lent.proofs.Laws.{over-front, length-over}
-use Rattle.codes.specs.declared.Class.{Class}
 use Rattle.codes.specs.declared.Test.{Test}
 use Rattle.codes.specs.Meaning.{test-of, patterns-read, patterns-at}
-use Rattle.readers.specs.Places.{Peeked, byte-at, after, follow, follow-or, gives, closing, enclosed, quoted, choose-or, numeral}
+use Rattle.readers.specs.Places.{Peeked, byte-at, after, numeral}
 use Rattle.readers.specs.Reading as place
 use Rattle.readers.proofs.Bytes.{byte-past, after-inside}
 use Rattle.readers.proofs.Many.{onto}
+use Rattle.readers.proofs.Quotes.{quoted-inside}
+use Rattle.readers.proofs.Ever.{Ever, read-has, follow-then, follow-any, or-any, choose-reads}
 use Rattle.readers.proofs.PatternReads.{tests-none, tests-last, tests-more, pattern-open, pattern-none, patterns-none, patterns-last, patterns-more}
 use Rattle.patterns.specs.Reach.{flag, Marks, Moved, Test-within}
 use Rattle.patterns.specs.Readable.{Readable, readable, Judged, judged, Decided, decided}
@@ -38,58 +39,19 @@ use Rattle.patterns.proofs.Marking.{wiped-at}
 
 -- ---- a literal that was read stands within the code
 
-data Inside (s : Bytes) (at : ℕ) (bs : Bytes) : Option ℕ → Type 0 where
-  nowhere : Inside s at bs none
-  inside : {n : ℕ} → at ≤ n → n < at + length bs → Inside s at bs (some n)
-
-closing-inside : (s : Bytes) (q : ℕ) (bs : Bytes) (at : ℕ) → Inside s at bs (closing q bs at)
-unfolding closing
-closing-inside s q [] at = nowhere
-closing-inside s q (b ∷ bs) at = go (eqb b q) (closing-inside s q bs (suc at))
-  where
-    further : {o : Option ℕ} → Inside s (suc at) bs o → Inside s at (b ∷ bs) o
-    further nowhere = nowhere
-    further (inside {n = n} l h) = inside {n = n} (omega arith) (omega arith)
-
-    go : (t : Bool) → Inside s (suc at) bs (closing q bs (suc at)) → Inside s at (b ∷ bs) (if t then some at else closing q bs (suc at))
-    go true c = inside {n = at} (omega arith) (omega arith)
-    go false c = further c
-
 module _ (s : Bytes) where
-  literal-stands : (q at : ℕ) → Reads (Test-within s) (place.literal-test q s at)
-  unfolding place.literal-test quoted
-  literal-stands q at = go (closing-inside s q (drop at s) at)
-    where
-      go : {o : Option ℕ} → Inside s at (drop at s) o → Reads (Test-within s) (follow (enclosed at o) (λ len. gives (Test.Literal at len)) s)
-      go nowhere = reads-not
-      go (inside {n = n} l h) = reads {r = (Test.Literal at (n - at), n + 1)} (omega (arith, length-drop at s))
+  literal-stands : (q : ℕ) → Ever (Test-within s) s (place.literal-test q)
+  unfolding place.literal-test
+  literal-stands q n = follow-then _ (quoted-inside q s n) (λ len h k. reads h)
 
-  count-stands : (n at : ℕ) → Reads (Test-within s) (place.count-test n s at)
-  unfolding place.count-test
-  count-stands n at = go (place.class-letter s at)
-    where
-      go : (o : Option (Class × ℕ)) → Reads (Test-within s) (follow o (λ c. gives (Test.SoMany n c)) s)
-      go none = reads-not
-      go (some r) = reads {r = (Test.SoMany n (r .0), r .1)} tt
-
-  quoted-stands : (at : ℕ) → Reads (Test-within s) (place.quoted-test s at)
-  unfolding place.quoted-test choose-or
-  quoted-stands at =
-      reads-either (eqb 39 (byte-at s at)) (literal-stands 39 (after s at)) (reads-either (eqb 34 (byte-at s at)) (literal-stands 34 (after s at)) reads-not)
-
-  test-reads : (at : ℕ) → Reads (Test-within s) (place.test s at)
-  unfolding place.test
-  test-reads at = go (numeral 2 s at)
-    where
-      go : (o : Option (ℕ × ℕ)) → Reads (Test-within s) (follow-or o place.count-test s (place.quoted-test s at))
-      go none = quoted-stands at
-      go (some r) = count-stands (r .0) (r .1)
+  test-reads : Ever (Test-within s) s place.test
+  unfolding place.test place.count-test place.quoted-test
+  test-reads n =
+      or-any (numeral 2 s n) _ _ (λ v k. follow-any (place.class-letter s k) _ (λ c j. reads tt))
+      (choose-reads _ (and-all (literal-stands 39) (and-all (literal-stands 34) none-of)) (λ n. reads-not) n)
 
   pub test-stands : (at : ℕ) {t : Test} {n : ℕ} → place.test s at ≡ some (t, n) → Test-within s t
-  test-stands at {t} {n} e = has (rw e at (test-reads at))
-    where
-      has : Reads (Test-within s) (some (t, n)) → Test-within s t
-      has (reads p) = p
+  test-stands at e = read-has (test-reads at) e
 
 -- ---- one pattern, test by test
 
@@ -129,11 +91,10 @@ module _ {code e : Bytes} {from at : ℕ} {flags : Bytes} (x : Trying code e fro
   pub trying-none : (passed : Bool) (next : ℕ) → place.test code at ≡ none → Judged (λ ts. passes ts e) code passed next (tests (drop from code))
   trying-none passed next r = x .leads passed next (rw (tests-none code at r) Judged.unread)
 
-  module _ {t : Test} {n b m : ℕ} {flags′ : Bytes} (r : place.test code at ≡ some (t, n)) (p : Peeked code n b m)
-      (moved : Moved (test-of code t) e flags flags′) where
-    pub trying-next : (b ≡ 41 → ⊥) → Trying code e from n flags′
+  module _ {t : Test} {n b m : ℕ} (r : place.test code at ≡ some (t, n)) (p : Peeked code n b m) where
+    pub trying-next : {flags′ : Bytes} → Moved (test-of code t) e flags flags′ → (b ≡ 41 → ⊥) → Trying code e from n flags′
     unfolding passes-from
-    trying-next h = record {
+    trying-next moved h = record {
       before = cut-by (x .before) (test-of code t);
       marks = moved .moves (x .before) (x .marks);
       leads = λ passed next j. x .leads passed next (rw (tests-more code at r p h) (go j));
@@ -146,19 +107,10 @@ module _ {code e : Bytes} {from at : ℕ} {flags : Bytes} (x : Trying code e fro
         go Judged.unread = Judged.unread
 
     -- the parenthesis: the pattern passes where the element's end is reached
-    pub trying-last : b ≡ 41 → Judged (λ ts. passes ts e) code (eqb (getD flags′ (length e) 0) 1) m (tests (drop from code))
+    pub trying-last : {passed : Bool} → ((before : Bytes → Bool) → Marks before e flags → passed ≡ cut-by before (test-of code t) e) → b ≡ 41
+        → Judged (λ ts. passes ts e) code passed m (tests (drop from code))
     unfolding passes-from
-    trying-last h = x .leads _ m (rw (tests-last code at r p h) (judged told refl))
-      where
-        is-flag : (u : Bool) → eqb (flag u) 1 ≡ u
-        is-flag true = refl
-        is-flag false = refl
-
-        told : eqb (getD flags′ (length e) 0) 1 ≡ cut-by (x .before) (test-of code t) e
-        told =
-            ap (λ (n : ℕ). eqb n 1) (moved .moves (x .before) (x .marks) .marks (length e) (omega arith))
-            ∙ is-flag (cut-by (x .before) (test-of code t) (take (length e) e))
-            ∙ ap (cut-by (x .before) (test-of code t)) (take-length e)
+    trying-last told h = x .leads _ m (rw (tests-last code at r p h) (judged (told (x .before) (x .marks)) refl))
 
 -- ---- patterns, one after the other
 

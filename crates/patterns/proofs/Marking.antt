@@ -8,7 +8,7 @@ use mathlib.Core.Logic.{_⊎_, inl, inr}
 use mathlib.Core.Bool.{Bool, true, false, _&&_, _||_, or-false, and-true, and-false}
 use mathlib.Core.List.{[], _∷_, _++_}
 use lib.ListN.{length, take, drop, getD, set, replicate, length-set, length-drop, length-replicate, getD-replicate, List·getD-append, drop-of-length-le}
-use lib.Seq.{drop-cons, getD-set-same, getD-set-other, getD-append-add, getD-drop, drop-length}
+use lib.Seq.{drop-cons, getD-set-same, getD-set-other, getD-append-add, getD-drop, drop-length, take-length}
 use lib.Dec.{leb, eqb}
 use lib.Bits.{bitAnd, bitOr}
 use borrow.Author.Tests.{eq-eqb, ne-eqb, le-leb}
@@ -281,3 +281,40 @@ empty-moves (b ∷ text) e flags h = absurd (omega arith)
 pub zero-flag : (t : Bool) (n : ℕ) → n ≡ 0 → 0 ≡ (if t then n else 0)
 zero-flag true n h = sym h
 zero-flag false n h = refl
+
+-- ---- the last test: only the element's end matters
+
+is-flag : (t : Bool) → eqb (flag t) 1 ≡ t
+is-flag true = refl
+is-flag false = refl
+
+-- the flag at the element's end tells
+pub end-told : {t : Test} {e flags flags′ : Bytes} → Moved t e flags flags′ → (before : Bytes → Bool) → Marks before e flags
+    → eqb (getD flags′ (length e) 0) 1 ≡ cut-by before t e
+end-told {t} {e} moved before x =
+    ap (λ (n : ℕ). eqb n 1) (moved .moves before x .marks (length e) (omega arith))
+    ∙ is-flag (cut-by before t (take (length e) e))
+    ∙ ap (cut-by before t) (take-length e)
+
+module _ (text e : Bytes) {flags : Bytes} (before : Bytes → Bool) (x : Marks before e flags) where
+  -- no room for the literal
+  pub end-short : length e < length text → false ≡ cut-by before (Test.literal text) e
+  end-short l =
+      sym (wide-none before (Test.literal text) (length text) (λ piece. same-bytes piece text) (literal-fixed text) e (length e) (omega arith) l)
+      ∙ ap (cut-by before (Test.literal text)) (take-length e)
+
+  module _ (k : ℕ) (back : k + length text ≡ length e) where
+    literal-at : cut-by before (Test.literal text) e ≡ (eqb (getD flags k 0) 1 && same-bytes (take (length text) (drop k e)) text)
+    literal-at =
+        ap (cut-by before (Test.literal text)) (sym (ap (λ (n : ℕ). take n e) back ∙ take-length e))
+        ∙ wide-cut before (Test.literal text) (length text) (λ piece. same-bytes piece text) (literal-fixed text) e k (omega arith)
+        ∙ ap (λ (t : Bool). t && same-bytes (take (length text) (drop k e)) text)
+        (sym (ap (λ (n : ℕ). eqb n 1) (x .marks k (omega arith)) ∙ is-flag (before (take k e))))
+
+    -- the place in front of it is not reached
+    pub end-unreached : (getD flags k 0 ≡ 1 → ⊥) → false ≡ cut-by before (Test.literal text) e
+    end-unreached h = sym (literal-at ∙ rw (ne-eqb (getD flags k 0) 1 h))
+
+    pub end-compared : {n : ℕ} {r : Bool} → n ≡ length text → getD flags k 0 ≡ 1 → r ≡ same-bytes (take n (drop k e)) text
+        → r ≡ cut-by before (Test.literal text) e
+    end-compared l h told = told ∙ rw l (sym (literal-at ∙ rw (eq-eqb (getD flags k 0) 1 h)))

@@ -1,13 +1,15 @@
 // One test for all cuts at once: the flags of the places that the tests so far can end at are moved on in place, in one pass over the element.
 // "if it can be cut into consecutive parts that meet the tests in turn": no place is given up for another, and none is tried twice.
 ghost use mathlib.Core.Path.{_≡_};
+ghost use mathlib.Core.Bool.{Bool};
 ghost use Prim.Native.Nat.{_+_, _≤_, _<_};
 ghost use lib.ListN.{length, drop};
 ghost use lib.Dec.{leb};
-ghost use Rattle.paper.specs.Bytes.{if_then_else_, same-bytes};
+ghost use Rattle.paper.specs.Bytes.{Bytes, if_then_else_, same-bytes};
 ghost use Rattle.paper.specs.Codes as paper;
+ghost use Rattle.paper.proofs.Patterns.{cut-by};
 ghost use Rattle.codes.specs.Meaning.{class-of, test-of};
-ghost use Rattle.patterns.specs.Reach.{Moved, Carried, goes-on, starts, Test-within};
+ghost use Rattle.patterns.specs.Reach.{Marks, Moved, Carried, goes-on, starts, Test-within};
 use crate::class;
 use codes::Class;
 use codes::Test;
@@ -145,6 +147,42 @@ pub(crate) fn advance(test: Test, code: &[u8], e: &[u8], reach: &mut [u8])
         Test::Literal { start, len } => {
             let end = start + len;
             literal(&code[start..end], e, reach);
+        }
+    }
+}
+
+// The last test of a pattern need only end at the element's end: a literal stands there or not.
+fn ends_with(text: &[u8], e: &[u8], reach: &[u8]) -> bool
+    requires { ⌜ length (now e) < length (now reach) ⌝ }
+    ensures { λ r. ⌜ ((before : Bytes → Bool) → Marks before (now (e .entry)) (now (reach .entry))
+        → r ≡ cut-by before (paper.literal (now (text .entry))) (now (e .entry))) ⌝ }
+{
+    let end = e.len();
+    if end < text.len() {
+        return false;
+    }
+    let at = end - text.len();
+    if reach[at] != 1 {
+        return false;
+    }
+    same(&e[at..end], text)
+}
+
+// Whether the element's end is reached behind this test.
+pub(crate) fn ends(test: Test, code: &[u8], e: &[u8], reach: &mut [u8]) -> bool
+    requires { ⌜ Test-within (now code) test × (length (now e) + length (now e) < length (now reach)) ⌝ }
+    ensures { λ r. ⌜ ((before : Bytes → Bool) → Marks before (now (e .entry)) (now (reach .entry))
+        → r ≡ cut-by before (test-of (now (code .entry)) test) (now (e .entry))) ⌝ }
+{
+    match test {
+        Test::Literal { start, len } => {
+            let stop = start + len;
+            ends_with(&code[start..stop], e, &*reach)
+        }
+        _ => {
+            advance(test, code, e, reach);
+            let end = e.len();
+            reach[end] == 1
         }
     }
 }

@@ -41,15 +41,14 @@ fn try_pattern(code: &[u8], from: usize, e: &[u8], reach: &mut [u8]) -> Tried
                 next: at,
             };
         };
-        moving::advance(test, code, e, reach);
         let ahead = peek(code, next);
         if ahead.byte == b')' {
-            let end = e.len();
             return Tried {
-                passed: reach[end] == 1,
+                passed: moving::ends(test, code, e, reach),
                 next: ahead.next,
             };
         }
+        moving::advance(test, code, e, reach);
         at = next;
     }
 }

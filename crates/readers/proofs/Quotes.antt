@@ -12,6 +12,7 @@ use native.Mathlib.Omega.{arith}
 use borrow.Author.Tests.{eq-eqb, ne-eqb}
 use Rattle.paper.specs.Bytes.{Bytes, if_then_else_}
 use Rattle.paper.specs.Grammar as paper
+use Rattle.paper.proofs.Predicates.{Reads, reads, reads-not}
 use Rattle.readers.specs.Places.{follow, gives, closing, enclosed, quoted, literal}
 use Rattle.readers.proofs.Agreement.{Agree, neither, both, Agrees}
 
@@ -71,3 +72,25 @@ literal-agrees {A} {B} {f} {s} {low} make make′ q made = record { at = λ n l 
         let y : k ≡ n - at = omega arith in
         let z : n + 1 ≤ length s = omega (arith, length-drop at s) in
         rw (drop-drop, x, y, ← made at (n - at)) (both (make at (n - at)) (n + 1) (omega arith) z)
+
+-- a quote closes at a byte from here on
+closes : (q : ℕ) (bs : Bytes) (at close : ℕ) → closing q bs at ≡ some close → (at ≤ close) × (close < at + length bs)
+unfolding closing
+closes q [] at close e = let z : _≡_ {A = ℕ} 0 1 = cc in absurd (omega arith)
+closes q (b ∷ bs) at close e = here (eqb b q) e (closes q bs (suc at) close)
+  where
+    here : (t : Bool) → (if t then some at else closing q bs (suc at)) ≡ some close
+        → (closing q bs (suc at) ≡ some close → (suc at ≤ close) × (close < suc at + length bs)) → (at ≤ close) × (close < at + length (b ∷ bs))
+    here true e again = let same : at ≡ close = cc in omega arith
+    here false e again = let h = again e in omega arith
+
+-- so what was read of a literal lies within its code
+pub quoted-inside : (q : ℕ) (s : Bytes) (n : ℕ) → Reads (λ len. n + len ≤ length s) (quoted q s n)
+unfolding quoted
+quoted-inside q s n = placed (closing q (drop n s) n) refl
+  where
+    placed : (o : Option ℕ) → closing q (drop n s) n ≡ o → Reads (λ len. n + len ≤ length s) (enclosed n o)
+    placed none e = reads-not
+    placed (some close) e =
+        let h = closes q (drop n s) n close e in
+        reads {r = (close - n, close + 1)} (omega (arith, length-drop n s))

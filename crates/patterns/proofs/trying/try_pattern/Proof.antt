@@ -36,50 +36,50 @@ returns c =
     let l = c .before .before .before .loop in
     (l .inv .0, trying-none (l .inv .2) _ _ (read-is tests (c .before .before .test .ensures) (c .enum-told .given .1)))
 
-advance-requires : tie.Need-advance-requires Inv-loop μ-loop
-advance-requires c κs =
-    let k = c .before in
+ends-requires : tie.Need-ends-requires Inv-loop μ-loop
+ends-requires c κs =
+    let k = c .before .before .before .before in
     let l = k .before .before .before .before .loop in
     (test-stands _ _ (read-is tests (k .before .before .before .test .ensures) (k .before .test2 .given .1)), omega (arith, l .inv .1))
 
-slice-read-t19 : tie.Need-slice-read-t19 Inv-loop μ-loop
-slice-read-t19 c =
-    let l = c .before .before .before .before .before .before .before .before .before .before .before .before .loop in
-    omega (arith, l .inv .1, c .before .before .before .before .before .before .advance .ensures .size)
-
 same-length-2 : tie.Need-same-length-2 Inv-loop μ-loop
 same-length-2 c =
-    let moved = c .before .before .before .before .before .before in
-    let loop = moved .before .before .before .before .before .before in
-    moved .advance .ensures .size ∙ loop .loop .inv .1 ∙ loop .before .before .reach .given
+    let loop = c .before .before .before .before .before .before .before .before .before .before .before in
+    c .before .reach2 .given ∙ loop .loop .inv .1 ∙ loop .before .before .reach .given
 
 returns-2 : tie.Need-returns-2 Inv-loop μ-loop
 returns-2 c =
-    let moved = c .before .before .before .before .before .before in
-    let k = moved .before .before in
+    let ended = c .before .before in
+    let closed = ended .before .before in
+    let k = closed .before .before .before in
     let l = k .before .before .before .before .loop in
     let e = read-is tests (k .before .before .before .test .ensures) (k .before .test2 .given .1) in
-    let p = c .before .before .before .peek .ensures in
-    (omega (arith, within k, peeked-within (within k .1) p .0), trying-last (l .inv .2) e p (moved .advance .ensures) (c .before .if1 .taken))
+    let p = closed .before .before .peek .ensures in
+    (omega (arith, within k, peeked-within (within k .1) p .0), trying-last (l .inv .2) e p (ended .ends .ensures) (closed .if1 .taken))
+
+advance-requires : tie.Need-advance-requires Inv-loop μ-loop
+advance-requires c κs =
+    let k = c .before .before .before .before in
+    let l = k .before .before .before .before .loop in
+    (test-stands _ _ (read-is tests (k .before .before .before .test .ensures) (k .before .test2 .given .1)), omega (arith, l .inv .1))
 
 loop-less : tie.Need-loop-less Inv-loop μ-loop
 loop-less c = omega (arith, within (c .before .before .before .before .before .before .before))
 
 loop-again : tie.Need-loop-again Inv-loop μ-loop
 loop-again c =
-    let moved = c .before .before .before .before .before in
-    let k = moved .before .before in
+    let moved = c .before .before in
+    let further = moved .before .before in
+    let k = further .before .before .before in
     let l = k .before .before .before .before .loop in
     let e = read-is tests (k .before .before .before .test .ensures) (k .before .test2 .given .1) in (
       omega (arith, within k),
       moved .advance .ensures .size ∙ l .inv .1,
-      trying-next (l .inv .2) e (c .before .before .peek .ensures)
-          (moved .advance .ensures) (c .if1 .left),
+      trying-next (l .inv .2) e (further .before .before .peek .ensures) (moved .advance .ensures) (further .if1 .left),
     )
 
 pub try-pattern-spec : {M : Type 1} → statement M
 try-pattern-spec =
     tie.close
     (tie.spec Inv-loop μ-loop (λ c κs. search needs) loop-holds (λ c κs. search needs) (λ c. search needs) (λ c. search needs) same-length returns
-    advance-requires
-    (λ c κs. search needs) slice-read-t19 same-length-2 returns-2 loop-less loop-again)
+    (λ c κs. search needs) ends-requires same-length-2 returns-2 advance-requires loop-less loop-again)
