@@ -106,7 +106,7 @@ module _ (κs : Lfts 3) (args : _) (r : _) (exits : _) (post : convert-call.Post
     report-is : report-in verdict ≡ report (check code)
     report-is = checked .1 ∙ ap (λ (b : Bytes). report (check b)) same
 
-    -- the count is never above the ceiling of its A and B
+    -- the count is never above the ceiling of its A, B, P and T
     pub steps-at-most-ceiling : r .steps ≤ counted-ceiling (report-in verdict .steps) (length item) (length (elements item a v s))
     steps-at-most-ceiling = rw (steps-is, report-is, ← ceiling-reported) (steps-within-ceiling item code a v s budget room scratch)
 

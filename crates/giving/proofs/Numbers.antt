@@ -1,17 +1,12 @@
 -- A code's numbers are within what the crates that give its text ask. Assumes nothing.
 use Prim.Native.Nat.{ℕ, _+_, _*_, _≤_}
-use mathlib.Core.Path.{_≡_, refl}
-use mathlib.Core.List.{List}
-use mathlib.Core.Option.{some}
+use mathlib.Core.Path.{_≡_, refl, ap}
 use native.Mathlib.Omega.{arith}
 use native.Mathlib.Nat.{mul-le-mul}
 use lib.ListN.{length, drop, length-drop}
 use lib.Dec.{lit≤}
 use Rattle.paper.specs.Bytes.{Bytes}
 use Rattle.paper.specs.Sizes.{code-most, entry-most}
-use Rattle.paper.specs.Codes.{Pattern}
-use Rattle.paper.specs.Grammar.{pattern-list}
-use Rattle.paper.specs.Patterns.{tests-in}
 use Rattle.paper.specs.Checking.{conversion-kind}
 use Rattle.paper.specs.Steps.{charged}
 use Rattle.paper.proofs.Splitting.{told}
@@ -19,8 +14,9 @@ use Rattle.paper.proofs.Weights.{patterns-told}
 use Rattle.codes.specs.declared.Mask.{Mask}
 use Rattle.codes.specs.declared.Separator.{Separator}
 use Rattle.codes.specs.declared.Conversion.{Conversion}
-use Rattle.codes.specs.Meaning.{mask-of, conversion-of, patterns-at}
+use Rattle.codes.specs.Meaning.{mask-of, conversion-of}
 use Rattle.codes.specs.Counting.{kind-of, Counted, patterns-counted}
+use Rattle.readers.proofs.Counted.{counted-kind}
 use Rattle.patterns.specs.Readable.{Readable, readable}
 use Rattle.masks.specs.Bounds.{Bounded}
 use Rattle.giving.specs.Bounds.{Conversion-within, plain-within, mask-within, date-within, patterns-within, tests-of, charged-most}
@@ -52,15 +48,8 @@ charged-fits h k = mul-le-mul {n₂ = code-most} {m₂ = 1 + entry-most} h (omeg
 -- What a code is charged by its own count is what the paper charges it, on a record of any length.
 pub charged-within : {code : Bytes} {c : Conversion} (size taken : ℕ) → Conversion-within code c
     → charged (conversion-kind (conversion-of code c)) size taken ≡ charged (kind-of c) 0 taken
-unfolding kind-of conversion-of conversion-kind charged patterns-at
+unfolding kind-of conversion-of conversion-kind charged
 charged-within size taken plain-within = refl
 charged-within size taken (mask-within h) = refl
 charged-within size taken (date-within h) = refl
-charged-within {code} size taken (patterns-within {start = start} (patterns-counted e f) h) = read e f
-  where
-    read : {tests : ℕ} {ps : List Pattern} {rest : Bytes} → pattern-list (drop start code) ≡ some (ps, rest) → tests ≡ tests-in ps
-        → tests-in (patterns-at code start) * (taken + 1) ≡ tests * (taken + 1)
-    read e f = rw f (counted e)
-      where
-        counted : {ps : List Pattern} {rest : Bytes} → pattern-list (drop start code) ≡ some (ps, rest) → tests-in (patterns-at code start) * (taken + 1) ≡ tests-in ps * (taken + 1)
-        counted e = rw e
+charged-within size taken (patterns-within counted h) = ap (λ kind. charged kind 0 taken) (counted-kind counted)

@@ -62,7 +62,7 @@ module _ (s : Bytes) (at : ℕ) (h : at ≤ length s) (t : Tally) where
       unfolding finished
       finished-stray j = from (elms-stray s at h e n f (omega arith) (peeked-inside s n l) j)
 
--- A and B of one code, or its fault
+-- A, B, P and T of one code, or its fault
 judging : Option codes.Code → Judged
 judging o = judged-of (in-grammar o >>= λ c. lawful c >> given c)
 

@@ -145,7 +145,7 @@ fn puts(elm: Elm) -> u64
     }
 }
 
-// The shape of an elm: a match of constants for each of its fields is compiled to a look-up, one match for all three to a jump.
+// The shape of an elm. A match of constants for the entries taken and for those put is compiled to a look-up, one match for all fields to a jump.
 fn shape(elm: Elm) -> Shape
     ensures { λ r. ⌜ ((string : Bytes) → Elm-counted string elm → r ≡ shape-in (shape (elm-of string elm))) ⌝ }
     ensures { λ r. ⌜ (r .puts ≤ 2) × (r .kind ≡ kind-in (elm-kind-of elm)) ⌝ }

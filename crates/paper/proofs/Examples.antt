@@ -118,7 +118,7 @@ easy-slips : all-told slips ≡ all-said slips
 unfolding told slips marked bytes
 easy-slips = refl
 
--- Document 02, L1, and the slips that its readers warn of
+-- Document 02, L1, where it can be misread
 patterns : List Row
 patterns =
     -- "if it can be cut": some cut, not the longest first part
@@ -129,7 +129,6 @@ patterns =
     ∷ row (giving "P(3X)" "ab") "0 "
     ∷ row (giving "P(3X)" "abcd") "0 "
     -- "0 meaning any number and none"
-    ∷ row (giving "P(0N)(" "") "6 "
     ∷ row (giving "P('a'0N'b')" "ab") "0 ab"
     ∷ row (giving "P(001N)" "1") "0 1"
     ∷ row (giving "P('')" "x") "0 "
@@ -142,6 +141,7 @@ patterns =
     ∷ row (converting "K1^10]20^3" "F;1;(P(1N);(2A))" 1 0 0 program-budget) "0 40 ]"
     ∷ row (at-most "K1^10]20^3" "F;1;(P(1N);(2A))" 1 0 0) "8220"
     ∷ row (from-counts "K1^10]20^3" "F;1;(P(1N);(2A))" 1 0 0) "8220"
+    ∷ row (checking "P(0N)(") "6"
     ∷ row (checking "F;1;(P(1N));(L)") "0"
     ∷ row (checking "F;1;(P(1N);(L))") "6"
     ∷ row (checking "F;1;P;+") "0"

@@ -270,16 +270,6 @@ module _ (before : Bytes → Bool) (t : Test) (m : ℕ) (good : Bytes → Bool) 
   pub wide-none : (e : Bytes) (j : ℕ) → j ≤ length e → j < m → cut-by before t (take j e) ≡ false
   wide-none e j h w = fails _ (λ c. let f = wide-found (cut-found _ (take j e) c) .0 in omega (arith, length-take-le j e h))
 
-  pub wide-at : (e : Bytes) (j : ℕ) → j ≤ length e
-      → cut-by before t (take j e) ≡ (leb m j && (before (take (j - m) e) && good (take m (drop (j - m) e))))
-  wide-at e j h = go (ltb-or j m)
-    where
-      go : (j < m) ⊎ (m ≤ j) → cut-by before t (take j e) ≡ (leb m j && (before (take (j - m) e) && good (take m (drop (j - m) e))))
-      go (inl w) = rw (lt-leb m j w) (wide-none e j h w)
-      go (inr w) =
-          let s : j - m + m ≡ j = omega arith in
-          rw (le-leb m j w) (rw s at (wide-cut e (j - m) (omega arith)))
-
 -- ---- the two tests of a fixed width
 
 pub so-many-fixed : (n : ℕ) (c : Class) (piece : Bytes) → meets (Test.so-many (suc n) c) piece ≡ (eqb (length piece) (suc n) && every (of-class c) piece)

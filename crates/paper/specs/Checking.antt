@@ -1,6 +1,5 @@
 -- Document 01, "The code grammar" and "Steps" (A and B), and document 02, L1 (P and T): checking a code string.
 use Prim.Native.Nat.{ℕ, suc, _+_, _-_, _≤_}
-use mathlib.Core.Bool.{Bool, true, false}
 use mathlib.Core.List.{List, [], _∷_}
 use mathlib.Core.Option.{Option, none, some}
 use lib.ListN.{length}

@@ -1,4 +1,4 @@
--- Document 01, "The code grammar": what a code is once it is read.
+-- Document 01, "The code grammar", and document 02, L1 (tests and patterns): what a code is once it is read.
 use Prim.Native.Nat.{ℕ}
 use mathlib.Core.Bool.{Bool}
 use mathlib.Core.List.{List}

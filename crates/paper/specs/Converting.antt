@@ -1,4 +1,4 @@
--- Document 01, "What each code gives" (the elements of an address) and "Steps" (budget, count, ceiling): converting.
+-- Document 01, "What each code gives" (the elements of an address) and "Steps" (budget, count, ceiling), and document 02, L1: converting.
 use Prim.Native.Nat.{ℕ, zero, suc, _+_, _*_}
 use mathlib.Core.List.{List, [], _∷_, _++_}
 use mathlib.Core.Option.{Option, none, some}

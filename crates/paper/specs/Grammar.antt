@@ -1,4 +1,4 @@
--- Document 01, "The code grammar": readers that look one byte ahead and commit, a line for each line of the grammar.
+-- Document 01, "The code grammar", and document 02, L1: readers that look one byte ahead and commit, a line for each line of the grammar.
 use Prim.Native.Nat.{ℕ, zero, suc, _+_, _*_}
 use mathlib.Core.Bool.{Bool, true, false, not, _&&_, _||_}
 use mathlib.Core.List.{List, [], _∷_}

@@ -1,4 +1,4 @@
--- Document 01, "What each code gives" (F) and "Steps": a step, its cost, and the run of one element.
+-- Document 01, "What each code gives" (F) and "Steps", and document 02, L1: a step, its cost, and the run of one element.
 use Prim.Native.Nat.{ℕ, zero, suc, _+_, _*_}
 use mathlib.Core.List.{List, [], _∷_, _++_}
 use lib.ListN.{length, take, drop}

@@ -17,7 +17,7 @@ mod class;
 mod moving;
 mod trying;
 
-// A flag for each place of an element, and as many behind them that runs are carried to without a test for the end.
+// A flag for each place of an element, and behind them one for each of its bytes, which runs are carried to without a test for the end.
 const FLAGS: usize = 2 * Limit::ENTRY.most + 1;
 
 // P on one element, with the patterns that stand at `start` of the code string.

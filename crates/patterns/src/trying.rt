@@ -26,7 +26,7 @@ fn at_front(e: &[u8], reach: &mut [u8])
     reach[0] = 1;
 }
 
-// One pattern, from behind its `(` to behind its `)`. "nothing is left over": it passes where the element's end is reached.
+// One pattern, from behind its `(` to behind its `)`. Nothing may be left over: it passes where the element's end is reached.
 fn try_pattern(code: &[u8], from: usize, e: &[u8], reach: &mut [u8]) -> Tried
     requires { ⌜ length (now e) + length (now e) < length (now reach) ⌝ }
     ensures { λ r. ⌜ from ≤ r .next ⌝ }

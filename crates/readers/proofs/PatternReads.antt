@@ -16,8 +16,8 @@ use Rattle.paper.specs.Grammar as paper
 use Rattle.paper.specs.Patterns.{tests-in}
 use Rattle.paper.proofs.Truths.{ltb-or}
 use Rattle.paper.proofs.Splitting.{told}
-use Rattle.paper.proofs.Eating.{Eats, eats-front, tests-eat, pattern-eats, patterns-eat}
-use Rattle.paper.proofs.Weights.{test-told, tests-told, pattern-told, patterns-told}
+use Rattle.paper.proofs.Eating.{Eats, eats-front, pattern-eats, patterns-eat}
+use Rattle.paper.proofs.Weights.{test-told, pattern-told, patterns-told}
 use Rattle.codes.specs.Meaning.{class-of, test-of}
 use Rattle.codes.specs.declared.Class.{Class}
 use Rattle.codes.specs.declared.Test.{Test}
@@ -60,7 +60,7 @@ unfolding place.test place.quoted-test choose-or digit numeral is-digit
 test-past s at u = rw (← byte-past s at u)
 
 -- and past the end neither reads
-pub test-at : (s : Bytes) (at : ℕ) → Agree (test-of s) s (suc at) (place.test s at) (paper.test (drop at s))
+test-at : (s : Bytes) (at : ℕ) → Agree (test-of s) s (suc at) (place.test s at) (paper.test (drop at s))
 unfolding paper.test paper.choose
 test-at s at =
     ⊎-elim (λ l. test-reads s at (omega arith)) (λ u. rw (test-past s at u, drop-of-length-le s u) neither) (ltb-or at (length s))
@@ -93,10 +93,7 @@ module _ (s : Bytes) (at : ℕ) where
   pub test-within : {t : Test} {n : ℕ} → place.test s at ≡ some (t, n) → (at < n) × (n ≤ length s)
   test-within {t} {n} e = let w = some-by t n (test-at s at) e in (w .1, w .2)
 
-  pub tests-end : {ts : codes.Pattern} {rest : Bytes} → paper.tests (drop at s) ≡ some (ts, rest) → Ends s at (length ts) rest
-  tests-end e = ends tests-eat e (told (rw e at (tests-told (drop at s))))
-
-  pub pattern-end : {p : codes.Pattern} {rest : Bytes} → paper.pattern (drop at s) ≡ some (p, rest) → Ends s at (length p) rest
+  pattern-end : {p : codes.Pattern} {rest : Bytes} → paper.pattern (drop at s) ≡ some (p, rest) → Ends s at (length p) rest
   pattern-end e = let z = told (rw e at (pattern-told (drop at s))) in ends pattern-eats e (omega arith)
 
   -- a pattern that was skimmed

@@ -124,11 +124,18 @@ module _ (κs : Lfts 5) (args : _) (r : _) (exits : _) (post : convert-call.Post
   module _ (κs′ : Lfts 6) (args′ : _) (r′ : _) (exits′ : _) (checked : check-call.Post κs′ args′ r′ exits′) (same : args′ .0 .now ≡ code) where
     -- the count is never above the ceiling of its A, B, P and T
     abbrev told-counts : Counts
-    told-counts = record { loads = exits′ .1 .1 .0 .now; others = exits′ .1 .1 .1 .0 .now; patterns = exits′ .1 .1 .1 .1 .0 .now; tests = exits′ .1 .1 .1 .1 .1 .0 .now }
+    told-counts =
+        record {
+          loads = exits′ .1 .1 .0 .now;
+          others = exits′ .1 .1 .1 .0 .now;
+          patterns = exits′ .1 .1 .1 .1 .0 .now;
+          tests = exits′ .1 .1 .1 .1 .1 .0 .now;
+        }
 
     pub steps-at-most-ceiling : steps ≤ counted-ceiling told-counts (length item) (length (elements item a v s))
     steps-at-most-ceiling =
-        let most : convert item code a v s budget room scratch .steps ≤ counted-ceiling (report (check code) .steps) (length item) (length (elements item a v s)) =
+        let most : convert item code a v s budget room scratch .steps
+        ≤ counted-ceiling (report (check code) .steps) (length item) (length (elements item a v s)) =
         rw (← ceiling-reported) (steps-within-ceiling item code a v s budget room scratch) in
         rw (post .1 .0, checked .1 .1 .0, checked .1 .1 .1 .0, checked .1 .1 .1 .1 .0, checked .1 .1 .1 .1 .1, same) most
 

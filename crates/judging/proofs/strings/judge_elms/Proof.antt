@@ -1,4 +1,5 @@
--- `strings::judge_elms` meets its contract: from elm to elm what the rest gives stays the same; each elm takes two bytes at least for its step and each of its tests, so no count wraps. Assumes nothing.
+-- `strings::judge_elms` meets its contract: from elm to elm what the rest gives stays the same. An elm takes two bytes at least for its step
+-- and each of its tests, so no count wraps. Assumes nothing.
 use Prim.Native.Nat.{_+_, _*_, _-_, _≤_, _<_}
 use mathlib.Core.Path.{_≡_, refl, sym, _∙_}
 use mathlib.Core.Option.{some}
