@@ -180,7 +180,9 @@ empty (b ∷ bs) h = absurd (let z = eqb-true (suc (length bs)) 0 h in omega ari
 
 -- nothing is left over
 cut-all : (before : Bytes → Bool) (bs : Bytes) → some-cut (λ front rest. before front && nothing rest) bs ≡ before bs
-cut-all before bs = alike _ _ (λ h. to (cut-found _ bs h)) (λ h. subst (λ (l : Bytes). some-cut (λ front rest. before front && nothing rest) l ≡ true) (append-nil bs) (cut-holds _ bs [] (together h refl)))
+cut-all before bs =
+    alike _ _ (λ h. to (cut-found _ bs h))
+    (λ h. subst (λ (l : Bytes). some-cut (λ front rest. before front && nothing rest) l ≡ true) (append-nil bs) (cut-holds _ bs [] (together h refl)))
   where
     to : {l : Bytes} → Parted (λ front rest. before front && nothing rest) l → before l ≡ true
     to (parted front rest k) = let (b, n) = both (before front) (nothing rest) k in rw (empty rest n, append-nil front) b
@@ -216,7 +218,9 @@ module _ (before : Bytes → Bool) (c : Class) where
       cut-snoc _ bs b
       ∙ ap (λ (t : Bool). t || (before (bs ++ b ∷ []) && true))
       (cut-alike _ (λ front piece. (before front && every (of-class c) piece) && of-class c b)
-      (λ front piece. ap (λ (t : Bool). before front && t) (every-snoc (of-class c) piece b) ∙ sym (and-assoc (before front) (every (of-class c) piece) (of-class c b))) bs
+      (λ front piece.
+      ap (λ (t : Bool). before front && t) (every-snoc (of-class c) piece b)
+      ∙ sym (and-assoc (before front) (every (of-class c) piece) (of-class c b))) bs
       ∙ cut-and _ (of-class c b) bs)
       ∙ or-comm (some-cut (λ front piece. before front && every (of-class c) piece) bs && of-class c b) (before (bs ++ b ∷ []) && true)
       ∙ ap (λ (t : Bool). t || (some-cut (λ front piece. before front && every (of-class c) piece) bs && of-class c b)) (and-true (before (bs ++ b ∷ [])))
@@ -234,8 +238,11 @@ module _ (before : Bytes → Bool) (t : Test) (m : ℕ) (good : Bytes → Bool) 
       let (b, f) = both (before front) (meets t piece) k in
       let (w, g) = both (eqb (length piece) m) (good piece) (sym (fixed piece) ∙ f) in
       let n : length piece ≡ m = eqb-true (length piece) m w in
-      let s : length front ≡ length (front ++ piece) - m = omega (arith, length-append front piece) in
-      (omega (arith, length-append front piece), rw (take-at front piece (length (front ++ piece) - m) s) b, rw (drop-at front piece (length (front ++ piece) - m) s) g)
+      let s : length front ≡ length (front ++ piece) - m = omega (arith, length-append front piece) in (
+        omega (arith, length-append front piece),
+        rw (take-at front piece (length (front ++ piece) - m) s) b,
+        rw (drop-at front piece (length (front ++ piece) - m) s) g,
+      )
 
   -- k bytes, and m behind them
   pub wide-cut : (e : Bytes) (k : ℕ) → k + m ≤ length e → cut-by before t (take (k + m) e) ≡ (before (take k e) && good (take m (drop k e)))
@@ -250,7 +257,8 @@ module _ (before : Bytes → Bool) (t : Test) (m : ℕ) (good : Bytes → Bool) 
       less : length (take (k + m) e) - m ≡ k
       less = omega (arith, length-take-le (k + m) e h)
 
-      to : (m ≤ length (take (k + m) e)) × (before (take (length (take (k + m) e) - m) (take (k + m) e)) ≡ true) × (good (drop (length (take (k + m) e) - m) (take (k + m) e)) ≡ true)
+      to : (m ≤ length (take (k + m) e)) × (before (take (length (take (k + m) e) - m) (take (k + m) e)) ≡ true)
+          × (good (drop (length (take (k + m) e) - m) (take (k + m) e)) ≡ true)
           → (before (take k e) && good (take m (drop k e))) ≡ true
       to f =
           let b : before (take k (take (k + m) e)) ≡ true = rw less at (f .1) in
@@ -286,7 +294,8 @@ same-length (a ∷ l) (b ∷ bs) h = ap suc (same-length l bs (both (eqb a b) (s
 pub literal-fixed : (text piece : Bytes) → meets (Test.literal text) piece ≡ (eqb (length piece) (length text) && same-bytes piece text)
 unfolding meets
 literal-fixed text piece =
-    alike _ _ (λ h. together (eq-eqb (length piece) (length text) (same-length piece text h)) h) (λ h. both (eqb (length piece) (length text)) (same-bytes piece text) h .1)
+    alike _ _ (λ h. together (eq-eqb (length piece) (length text) (same-length piece text h)) h)
+    (λ h. both (eqb (length piece) (length text)) (same-bytes piece text) h .1)
 
 -- how many bytes of the class stand in front
 unfoldable pub run : Class → Bytes → ℕ

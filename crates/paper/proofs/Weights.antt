@@ -93,7 +93,8 @@ list-told (suc fuel) bs = told-follow _ (pattern-told bs) (λ x p. behind (x .0)
         (ahead (eqb (ch ";")) (λ _ bs. follow (parted fuel (ch ";") pattern bs) (λ ps. gives (t ∷ ps))) (gives (t ∷ [])) rest)
     behind t [] p more = present {a = (t ∷ [], [])} (omega arith)
     behind t (b ∷ rest) p more =
-        told-either (eqb (ch ";") b) (told-follow _ (more rest) (λ y q. present {a = (t ∷ y .0, y .1)} (omega arith))) (present {a = (t ∷ [], b ∷ rest)} (omega arith))
+        told-either (eqb (ch ";") b) (told-follow _ (more rest) (λ y q. present {a = (t ∷ y .0, y .1)} (omega arith)))
+        (present {a = (t ∷ [], b ∷ rest)} (omega arith))
 
 -- the patterns of a P code: two bytes for each test
 pub patterns-told : (bs : Bytes) → Told (λ x. 2 * tests-in (x .0) + 2 + length (x .1) ≤ length bs) (pattern-list bs)
@@ -202,7 +203,8 @@ converting-weighed bs = told-follow _ (told-by (conversion bs) (conversion-weigh
     closed c [] p = absent
     closed c (b ∷ rest) p = parenthesis (eqb (ch ")") b)
       where
-        parenthesis : (t : Bool) → Told (Weighed (λ e. shape e .kind) (suc (length bs))) (follow (if t then some (tt {0}, rest) else none) (λ _. gives (Elm.convert c)))
+        parenthesis : (t : Bool)
+            → Told (Weighed (λ e. shape e .kind) (suc (length bs))) (follow (if t then some (tt {0}, rest) else none) (λ _. gives (Elm.convert c)))
         parenthesis true = present {a = (Elm.convert c, rest)} (together (omega arith))
         parenthesis false = absent
 

@@ -1,4 +1,5 @@
--- Document 01, "The code grammar", and document 02, L1, by place: the codes other than F, the lines of crates/paper/specs/Grammar.antt in their order, as the enums of `codes`.
+-- Document 01, "The code grammar", and document 02, L1, by place: the codes other than F, the lines of crates/paper/specs/Grammar.antt in their order,
+-- as the enums of `codes`.
 use Prim.Native.Nat.{ℕ, _-_}
 use mathlib.Core.Bool.{Bool, true, false, not, _||_}
 use mathlib.Core.List.{List, [], _∷_}
