@@ -1,45 +1,19 @@
 // The classes of a test: "`nN`, `nA`, `nX`" (SMA:101, 2.12: numeric, alpha, any character).
 ghost use mathlib.Core.Path.{_≡_};
 ghost use Prim.Native.Nat.{_+_, _<_, _^_};
-ghost use Rattle.paper.specs.Bytes.{if_then_else_, is-digit, is-upper, is-lower};
+ghost use Rattle.paper.specs.Bytes.{if_then_else_};
 ghost use Rattle.paper.specs.Patterns.{of-class};
 ghost use Rattle.codes.specs.Meaning.{class-of};
 ghost use Rattle.patterns.specs.Reach.{flag};
 use codes::Class;
-
-fn is_digit(b: u8) -> bool
-    ensures { λ r. ⌜ r ≡ is-digit b ⌝ }
-{
-    match b {
-        b'0'..=b'9' => true,
-        _ => false,
-    }
-}
-
-fn is_upper(b: u8) -> bool
-    ensures { λ r. ⌜ r ≡ is-upper b ⌝ }
-{
-    match b {
-        b'A'..=b'Z' => true,
-        _ => false,
-    }
-}
-
-fn is_lower(b: u8) -> bool
-    ensures { λ r. ⌜ r ≡ is-lower b ⌝ }
-{
-    match b {
-        b'a'..=b'z' => true,
-        _ => false,
-    }
-}
+use texts::letter;
 
 fn of_class(class: Class, b: u8) -> bool
     ensures { λ r. ⌜ r ≡ of-class (class-of class) b ⌝ }
 {
     match class {
-        Class::Numeric => is_digit(b),
-        Class::Alpha => is_upper(b) | is_lower(b),
+        Class::Numeric => letter::is_digit(b),
+        Class::Alpha => letter::is_letter(b),
         Class::Character => true,
     }
 }

@@ -60,7 +60,7 @@ hex-settled κs a r r′ e e′ p q = same p q
 unhex-settled : (κs : Lfts 2) (a : _) (r r′ : _) (e e′ : _) → unhex.Post κs a r e → unhex.Post κs a r′ e′ → (r ≡ r′) × (e .1 .0 .now ≡ e′ .1 .0 .now)
 unhex-settled κs a r r′ e e′ p q = same p q
 
--- within the crate: an answer on one byte
+-- an answer on one byte: `is_letter` and `is_digit` for whoever asks, the others within the crate
 is-upper-settled : (κs : Lfts 0) → Settled (is-upper.Post κs)
 is-upper-settled κs a r r′ e e′ p q = p ∙ sym q
 

@@ -22,13 +22,13 @@ pub(crate) fn is_lower(b: u8) -> bool
 }
 
 // A match for each range, put together with no branch: so a loop over it is compiled to SIMD.
-pub(crate) fn is_letter(b: u8) -> bool
+pub fn is_letter(b: u8) -> bool
     ensures { λ r. ⌜ r ≡ is-letter b ⌝ }
 {
     is_upper(b) | is_lower(b)
 }
 
-pub(crate) fn is_digit(b: u8) -> bool
+pub fn is_digit(b: u8) -> bool
     ensures { λ r. ⌜ r ≡ is-digit b ⌝ }
 {
     match b {

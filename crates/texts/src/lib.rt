@@ -17,7 +17,7 @@ use paper::Limit;
 use paper::refusal;
 
 mod hexit;
-mod letter;
+pub mod letter;
 mod part;
 
 // What MCA, MC/A, MCN and MC/N keep (001, 4.8).
