@@ -11,6 +11,7 @@ use borrow.Author.Tests.{ne-eqb}
 use Rattle.paper.specs.Bytes.{Bytes, if_then_else_}
 use Rattle.paper.specs.Grammar as paper
 use Rattle.paper.specs.Codes as codes
+use Rattle.paper.proofs.Fuel.{Shortens, onto}
 use Rattle.codes.specs.Meaning.{elm-of}
 use Rattle.codes.specs.declared.Elm.{Elm}
 use Rattle.readers.specs.Places.{Peeked}
@@ -18,7 +19,7 @@ use Rattle.grammar.specs.Reading as place
 use Rattle.grammar.specs.Heads.{elms-from}
 use Rattle.readers.proofs.Bytes.{peeked-drop}
 use Rattle.readers.proofs.Agreement.{none-by, some-by}
-use Rattle.readers.proofs.Many.{Shortens, shorter, onto, parted-of, parted-none}
+use Rattle.readers.proofs.Many.{shorter, parted-of, parted-none}
 use Rattle.grammar.proofs.AgreementLines.{elm-reads}
 
 -- an elm eats a byte: the bytes after it are fewer

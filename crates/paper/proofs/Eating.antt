@@ -9,7 +9,7 @@ use mathlib.Core.List.{List, [], _∷_, _++_, append-nil, append-assoc, List·Me
 use mathlib.Core.Option.{Option, none, some, Option·none-ne-some}
 use lib.Dec.{eqb}
 use lib.ListN.{length, length-append}
-use borrow.Author.Tests.{eqb-true, eq-eqb}
+use borrow.Author.Tests.{eq-eqb}
 use Rattle.paper.specs.Bytes.{Bytes, if_then_else_, ch, is-digit, is-letter, is-upper, is-lower}
 use Rattle.paper.specs.Records.{join}
 use Rattle.paper.specs.Codes.{Elm}
@@ -18,6 +18,7 @@ use Rattle.paper.specs.Grammar.{separator, group-after, group-code, extr
 use Rattle.paper.specs.Grammar.{character-code, scales, credit-letter, fill-byte, fill-width, fill-part, mask-code, is-separator, date-after, date-code}
 use Rattle.paper.specs.Grammar.{masking-code, class-letter, count-test, literal-test, test, tests, pattern, pattern-list, pattern-code, conversion, repeats, attribute-elm, literal-elm, previous-elm, multiply-elm, bracket-elm, converting-elm}
 use Rattle.paper.specs.Grammar.{operator-elm, elm, parted, closed-by, elms, function-code, code}
+use Rattle.paper.proofs.Fuel.{Again, many-enough, another, another-grows, close, close-grows}
 use Rattle.paper.proofs.Predicates.{All, none-of, and-all}
 use Rattle.paper.proofs.Splitting.{Without, Told, absent, present, told, told-map}
 
@@ -173,40 +174,24 @@ pub data Parts {A : Type 0} (c : ℕ) (r : Reader A) : Bytes → List A × Bytes
   next : {bs : Bytes} {x : A} {more : Bytes} {y : List A × Bytes} → r bs ≡ some (x, c ∷ more) → Parts c r more y
       → Parts c r bs (x ∷ y .0, y .1)
 
-module _ {A : Type 0} (c : ℕ) (r : Reader A) where
-  -- what is read with any fuel
-  pub parts-of : (fuel : ℕ) (bs : Bytes) → Told (Parts c r bs) (parted fuel c r bs)
+module _ {A : Type 0} (c : ℕ) (r : Reader A) {closes : Bytes} (eats : Eats closes r) (starts : r [] ≡ none) where
+  -- read with fuel of the bytes' number, where each eats a byte
+  pub parts-read : {bs : Bytes} {y : List A × Bytes} (fuel : ℕ) → Parts c r bs y → length bs ≤ fuel → parted fuel c r bs ≡ some y
   unfolding parted
-  parts-of zero bs = absent
-  parts-of (suc fuel) bs = go (r bs) refl (parts-of fuel)
-    where
-      either : (t : Bool) {x : A} {b : ℕ} {more : Bytes} {o : Option (List A × Bytes)} → eqb c b ≡ t → r bs ≡ some (x, b ∷ more)
-          → Told (Parts c r more) o → Told (Parts c r bs) (if t then follow o (λ xs. gives (x ∷ xs)) else some (x ∷ [], b ∷ more))
-      either true h e absent = absent
-      either true {x} {b} h e (present ps) = present (next (rw (← eqb-true c b h) at e) ps)
-      either false h e ps = present (last e h)
+  parts-read zero (last e m) l = absurd (omega (arith, eats-a-byte eats starts e))
+  parts-read zero (next e ps) l = absurd (omega (arith, eats-a-byte eats starts e))
+  parts-read (suc fuel) (last {rest = []} e m) l = rw e
+  parts-read (suc fuel) (last {rest = b ∷ rest} e m) l = rw (e, m)
+  parts-read (suc fuel) (next e ps) l = rw (e, eq-eqb c c refl, parts-read fuel ps (omega (arith, eats-a-byte eats starts e)))
 
-      go : (o : Option (A × Bytes)) → r bs ≡ o → ((bs : Bytes) → Told (Parts c r bs) (parted fuel c r bs))
-          → Told (Parts c r bs) (follow o (λ x. ahead (eqb c) (λ _. parted fuel c r >>= λ xs. gives (x ∷ xs)) (gives (x ∷ []))))
-      go none e ih = absent
-      go (some (x, [])) e ih = present (last e tt)
-      go (some (x, b ∷ more)) e ih = either (eqb c b) refl e (ih more)
+  pub enough : (fuel : ℕ) (bs : Bytes) {y : List A × Bytes} → parted fuel c r bs ≡ some y → parted (length bs) c r bs ≡ some y
+  unfolding parted
+  enough fuel bs {y} e =
+      many-enough r (another c) (λ n. parted n c r) (λ bs. refl) (λ n bs. refl) (λ bs x rest. eats-a-byte eats starts) (another-grows c)
+      fuel (length bs) bs (omega arith) y e
 
-  module _ {closes : Bytes} (eats : Eats closes r) (starts : r [] ≡ none) where
-    -- is read with fuel of the bytes' number, where each eats a byte
-    pub parts-read : {bs : Bytes} {y : List A × Bytes} (fuel : ℕ) → Parts c r bs y → length bs ≤ fuel → parted fuel c r bs ≡ some y
-    unfolding parted
-    parts-read zero (last e m) l = absurd (omega (arith, eats-a-byte eats starts e))
-    parts-read zero (next e ps) l = absurd (omega (arith, eats-a-byte eats starts e))
-    parts-read (suc fuel) (last {rest = []} e m) l = rw e
-    parts-read (suc fuel) (last {rest = b ∷ rest} e m) l = rw (e, m)
-    parts-read (suc fuel) (next e ps) l = rw (e, eq-eqb c c refl, parts-read fuel ps (omega (arith, eats-a-byte eats starts e)))
-
-    pub enough : (fuel : ℕ) (bs : Bytes) {y : List A × Bytes} → parted fuel c r bs ≡ some y → parted (length bs) c r bs ≡ some y
-    enough fuel bs e = parts-read (length bs) (told (rw e at (parts-of fuel bs))) (omega arith)
-
-    pub eats-all : Without (eqb c) closes → Eats closes (λ bs. parted (length bs) c r bs)
-    eats-all h = record { at = λ bs. told-map (λ x (t, s, f). (t, s, λ new l. enough _ _ (f new l))) (eats-parted (length bs) c h eats .at bs) }
+  pub eats-all : Without (eqb c) closes → Eats closes (λ bs. parted (length bs) c r bs)
+  eats-all h = record { at = λ bs. told-map (λ x (t, s, f). (t, s, λ new l. enough _ _ (f new l))) (eats-parted (length bs) c h eats .at bs) }
 
 -- One or more up to the byte c: c eats them, whatever closes.
 module _ {A : Type 0} (c : ℕ) (r : Reader A) {closes : Bytes} (eats : Eats closes r) (starts : r [] ≡ none) where
@@ -221,39 +206,14 @@ module _ {A : Type 0} (c : ℕ) (r : Reader A) {closes : Bytes} (eats : Eats clo
   eats-closed (suc fuel) =
       eats-then eats (λ x. eats-ahead (inr (rw (closed-none fuel))) (λ _. eats-gives) (eats-then (eats-closed fuel) (λ xs. eats-gives)))
 
-  -- what is read with fuel k is read with fuel m, of bytes no more than that
-  abbrev Again : ℕ → ℕ → Type 0
-  Again k m = (bs : Bytes) (y : List A × Bytes) → closed-by k c r bs ≡ some y → length bs ≤ m → closed-by m c r bs ≡ some y
-
   -- with fuel of the bytes' number, where each eats a byte
-  closed-enough : (k m : ℕ) → Again k m
+  closed-enough : (k m : ℕ) (bs : Bytes) → length bs ≤ m → Again (closed-by k c r bs) (closed-by m c r bs)
   unfolding closed-by
-  closed-enough zero m bs y e l = absurd (Option·none-ne-some _ e)
-  closed-enough (suc k) zero [] y e l = absurd (Option·none-ne-some _ (sym (closed-none (suc k)) ∙ e))
-  closed-enough (suc k) zero (b ∷ bs) y e l = absurd (omega arith)
-  closed-enough (suc k) (suc m) bs y e l = go (r bs) refl (closed-enough k m) e
-    where
-      again : (x : A) (rest : Bytes) (o : Option (List A × Bytes)) → closed-by k c r rest ≡ o → length rest ≤ m
-          → Again k m → follow o (λ xs. gives (x ∷ xs)) ≡ some y → follow (closed-by m c r rest) (λ xs. gives (x ∷ xs)) ≡ some y
-      again x rest none f h ih g = absurd (Option·none-ne-some _ g)
-      again x rest (some z) f h ih g = rw (ih rest z f h) g
-
-      either : (t : Bool) (x : A) (b : ℕ) (more : Bytes) → length (b ∷ more) ≤ m → Again k m
-          → (if t then some (x ∷ [], more) else follow (closed-by k c r (b ∷ more)) (λ xs. gives (x ∷ xs))) ≡ some y
-          → (if t then some (x ∷ [], more) else follow (closed-by m c r (b ∷ more)) (λ xs. gives (x ∷ xs))) ≡ some y
-      either true x b more h ih g = g
-      either false x b more h ih g = again x (b ∷ more) (closed-by k c r (b ∷ more)) refl h ih g
-
-      go : (o : Option (A × Bytes)) → r bs ≡ o → Again k m
-          → follow o (λ x. ahead (eqb c) (λ _. gives (x ∷ [])) (closed-by k c r >>= λ xs. gives (x ∷ xs))) ≡ some y
-          → follow o (λ x. ahead (eqb c) (λ _. gives (x ∷ [])) (closed-by m c r >>= λ xs. gives (x ∷ xs))) ≡ some y
-      go none f ih g = absurd (Option·none-ne-some _ g)
-      go (some (x, [])) f ih g = again x [] (closed-by k c r []) refl (omega arith) ih g
-      go (some (x, b ∷ more)) f ih g = either (eqb c b) x b more (omega (arith, eats-a-byte eats starts f)) ih g
+  closed-enough = many-enough r (close c) (λ n. closed-by n c r) (λ bs. refl) (λ n bs. refl) (λ bs x rest. eats-a-byte eats starts) (close-grows c)
 
   pub eats-all-closed : Eats closes (λ bs. closed-by (length bs) c r bs)
   eats-all-closed =
-      record { at = λ bs. told-map (λ x (t, s, f). (t, s, λ new l. closed-enough _ _ _ _ (f new l) (omega arith))) (eats-closed (length bs) .at bs) }
+      record { at = λ bs. told-map (λ x (t, s, f). (t, s, λ new l. closed-enough _ _ _ (omega arith) _ (f new l))) (eats-closed (length bs) .at bs) }
 
 -- texts, each read whole
 pub data Texts {A : Type 0} (r : Reader A) : List Bytes → List A → Type 0 where

@@ -6,6 +6,7 @@ pub mod Eating
 pub mod Entries
 pub mod Examples
 pub mod Fewest
+pub mod Fuel
 pub mod Limits
 pub mod Numbered
 pub mod Numerals

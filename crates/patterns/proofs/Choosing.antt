@@ -18,6 +18,7 @@ use Rattle.paper.specs.declared.Given.the-variants.{Length}
 use Rattle.paper.specs.Codes as paper
 use Rattle.paper.specs.Grammar.{tests, pattern, pattern-list}
 use Rattle.paper.specs.Patterns.{passes, some-passes, patterns-give}
+use Rattle.paper.proofs.Fuel.{onto}
 use Rattle.paper.proofs.Patterns.{cut-by, passes-from, nothing, passes-forward}
 use Rattle.paper.proofs.Truths.{ltb-or}
 use Rattle.paper.proofs.Limits.{limited-within, Answered, gives-bytes}
@@ -29,7 +30,6 @@ use Rattle.codes.specs.Meaning.{test-of, patterns-read, patterns-at}
 use Rattle.readers.specs.Places.{Peeked, byte-at, after, numeral}
 use Rattle.readers.specs.Reading as place
 use Rattle.readers.proofs.Bytes.{byte-past, after-inside}
-use Rattle.readers.proofs.Many.{onto}
 use Rattle.readers.proofs.Quotes.{quoted-inside}
 use Rattle.readers.proofs.Ever.{Ever, read-has, follow-then, follow-any, or-any, choose-reads}
 use Rattle.readers.proofs.PatternReads.{tests-none, tests-last, tests-more, pattern-open, pattern-none, patterns-none, patterns-last, patterns-more}

@@ -1,21 +1,21 @@
 -- Document 02, L1: a test by its place is the paper's, and the paper's patterns from place to place: this test and those behind it, this pattern and those
 -- behind it. Each leaves what stands behind a place of the code, two bytes a test further on at least. Assumes nothing.
-use Prim.Native.Nat.{ℕ, zero, suc, _<_, _≤_, _+_, _-_, _*_}
+use Prim.Native.Nat.{ℕ, suc, _<_, _≤_, _+_, _-_, _*_}
 use mathlib.Core.Path.{_≡_, refl, sym, ap, _∙_}
 use mathlib.Core.Logic.{⊎-elim}
-use mathlib.Core.Bool.{Bool, true, false}
 use mathlib.Core.List.{List, [], _∷_}
-use mathlib.Core.Option.{Option, none, some}
+use mathlib.Core.Option.{none, some}
 use lib.ListN.{length, drop, length-append, length-drop, drop-of-length-le}
 use lib.Seq.{drop-at, drop-drop}
 use lib.Dec.{eqb}
 use native.Mathlib.Omega.{arith}
-use Rattle.paper.specs.Bytes.{Bytes, if_then_else_, is-digit}
+use Rattle.paper.specs.Bytes.{Bytes, is-digit}
 use Rattle.paper.specs.Codes as codes
 use Rattle.paper.specs.Grammar as paper
 use Rattle.paper.specs.Patterns.{tests-in}
 use Rattle.paper.proofs.Truths.{ltb-or}
 use Rattle.paper.proofs.Splitting.{told}
+use Rattle.paper.proofs.Fuel.{Shortens, onto}
 use Rattle.paper.proofs.Eating.{Eats, eats-front, pattern-eats, patterns-eat}
 use Rattle.paper.proofs.Weights.{test-told, pattern-told, patterns-told}
 use Rattle.codes.specs.Meaning.{class-of, test-of}
@@ -24,12 +24,11 @@ use Rattle.codes.specs.declared.Test.{Test}
 use Rattle.readers.specs.Places.{Peeked, fails, choose-or, digit, numeral}
 use Rattle.readers.specs.Reading as place
 use Rattle.readers.proofs.Bytes.{byte-past}
-use Rattle.readers.proofs.Taken.{some-one, none-some}
-use Rattle.readers.proofs.Agreement.{Agree, neither, both, Agrees, no-more, option, gives-agrees, fails-agrees, chooses, follow-agrees}
+use Rattle.readers.proofs.Agreement.{Agree, neither, Agrees, no-more, option, gives-agrees, fails-agrees, chooses, follow-agrees}
 use Rattle.readers.proofs.Agreement.{choose-agrees, numeral-ahead-agrees, none-by, some-by}
 use Rattle.readers.proofs.Quotes.{literal-agrees}
 use Rattle.readers.proofs.Skimming.{skimmed-some}
-use Rattle.readers.proofs.Many.{Shortens, onto, parted-of, parted-none, closed-of, closed-none, ahead-hit, ahead-miss}
+use Rattle.readers.proofs.Many.{parted-of, parted-none, closed-of, closed-none, ahead-hit, ahead-miss}
 
 module _ {s : Bytes} {low : ℕ} where
   class-letter-agrees : Agrees class-of s low place.class-letter paper.class-letter

@@ -6,9 +6,9 @@ use mathlib.Core.Option.{Option, none, some}
 use lib.ListN.{length, drop, length-drop}
 use native.Mathlib.Omega.{arith}
 use Rattle.paper.specs.Bytes.{Bytes}
+use Rattle.paper.proofs.Fuel.{onto}
 use Rattle.readers.specs.Reading.{skimmed}
 use Rattle.readers.proofs.Taken.{some-one, none-some}
-use Rattle.readers.proofs.Many.{onto}
 
 -- k more than was counted
 abbrev pub raised : ℕ → Option (ℕ × ℕ) → Option (ℕ × ℕ)
