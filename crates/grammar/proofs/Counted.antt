@@ -1,16 +1,14 @@
 -- An elm that was read counts the tests of its patterns, and so does a code that stands alone. Assumes nothing.
-use mathlib.Core.Path.{_≡_, refl}
-use mathlib.Core.List.{[], _∷_}
-use mathlib.Core.Option.{Option, none, some}
+use mathlib.Core.Path.{_≡_}
+use mathlib.Core.Option.{some}
 use Prim.Native.Nat.{ℕ}
-use lib.ListN.{length}
 use Rattle.paper.specs.Bytes.{Bytes}
-use Rattle.paper.proofs.Predicates.{Reads, reads, reads-not, All, none-of, and-all}
+use Rattle.paper.proofs.Predicates.{reads, reads-not, none-of, and-all}
 use Rattle.codes.specs.Counting.{Counted, Elm-counted}
 use Rattle.codes.specs.declared.Conversion.{Conversion}
 use Rattle.codes.specs.declared.Elm.{Elm}
-use Rattle.readers.specs.Places.{Placed, this, digit, numeral, quoted}
-use Rattle.readers.proofs.Ever.{Ever, read-has, follow-then, follow-any, or-any, choose-reads}
+use Rattle.readers.specs.Places.{this, digit, numeral, quoted}
+use Rattle.readers.proofs.Ever.{Ever, read-has, gives-reads, follow-then, follow-any, or-any, choose-reads}
 use Rattle.readers.proofs.Counted.{conversion-counts}
 use Rattle.grammar.specs.Reading as place
 use Rattle.grammar.specs.Heads.{head}
@@ -24,21 +22,7 @@ module _ (s : Bytes) where
 
   single-counts : Ever (Elm-counted s) s place.single-elm
   unfolding place.single-elm
-  single-counts =
-      choose-reads _
-      (and-all (λ n. reads tt)
-      (and-all (λ n. reads tt)
-      (and-all (λ n. reads tt)
-      (and-all (λ n. reads tt)
-      (and-all (λ n. reads tt)
-      (and-all (λ n. reads tt)
-      (and-all (λ n. reads tt)
-      (and-all (λ n. reads tt)
-      (and-all (λ n. reads tt)
-      (and-all (λ n. reads tt)
-      (and-all (λ n. reads tt)
-      (and-all (λ n. reads tt) none-of))))))))))))
-      (λ n. reads-not)
+  single-counts = choose-reads _ (search (gives-reads, and-all, none-of) depth 20) (λ n. reads-not)
 
   longer-counts : Ever (Elm-counted s) s place.longer-elm
   unfolding place.longer-elm place.previous-elm place.multiply-elm place.bracket-elm place.converting-elm

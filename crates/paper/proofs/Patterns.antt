@@ -7,14 +7,14 @@ use mathlib.Core.Path.{_≡_, refl, sym, ap, _∙_, subst}
 use mathlib.Core.Logic.{_⊎_, inl, inr}
 use mathlib.Core.Bool.{Bool, true, false, _&&_, _||_, and-true, and-false, and-assoc, or-true, or-assoc, or-comm}
 use mathlib.Core.List.{List, [], _∷_, _++_, append-assoc, append-nil}
-use lib.ListN.{length, take, drop, getD, length-append, length-drop, take-append-drop}
+use lib.ListN.{length, take, drop, getD, length-append, length-drop}
 use lib.Seq.{take-suc, take-at, drop-at, take-add, length-take-le}
 use lib.Dec.{leb, eqb, leb·zero, leb·suc-zero, leb·suc-suc}
-use borrow.Author.Tests.{eqb-true, eq-eqb, leb-true, le-leb, lt-leb}
+use borrow.Author.Tests.{eqb-true, eq-eqb}
 use Rattle.paper.specs.Bytes.{Bytes, if_then_else_, same-bytes}
 use Rattle.paper.specs.Codes.{Class, Test, Pattern}
-use Rattle.paper.specs.Patterns.{of-class, every, counts, meets, some-cut, passes, some-passes, patterns-give}
-use Rattle.paper.proofs.Truths.{both, alike, fails, ltb-or}
+use Rattle.paper.specs.Patterns.{of-class, every, is-so-many, meets, some-cut, passes, some-passes, patterns-give}
+use Rattle.paper.proofs.Truths.{both, alike, fails}
 
 -- ---- what some-cut tells
 
@@ -208,12 +208,12 @@ every-snoc p (a ∷ bs) b = ap (λ (t : Bool). p a && t) (every-snoc p bs b) ∙
 -- "0 meaning any number and none": the place itself, or one byte more behind a place that was reached
 module _ (before : Bytes → Bool) (c : Class) where
   pub none-behind : cut-by before (Test.so-many 0 c) [] ≡ before []
-  unfolding some-cut meets counts every
+  unfolding some-cut meets is-so-many every
   none-behind = and-true (before [])
 
   any-snoc : (bs : Bytes) (b : ℕ)
       → cut-by before (Test.so-many 0 c) (bs ++ b ∷ []) ≡ (before (bs ++ b ∷ []) || (cut-by before (Test.so-many 0 c) bs && of-class c b))
-  unfolding meets counts every
+  unfolding meets is-so-many every
   any-snoc bs b =
       cut-snoc _ bs b
       ∙ ap (λ (t : Bool). t || (before (bs ++ b ∷ []) && true))
@@ -281,7 +281,7 @@ module _ (before : Bytes → Bool) (t : Test) (m : ℕ) (good : Bytes → Bool) 
 -- ---- the two tests of a fixed width
 
 pub so-many-fixed : (n : ℕ) (c : Class) (piece : Bytes) → meets (Test.so-many (suc n) c) piece ≡ (eqb (length piece) (suc n) && every (of-class c) piece)
-unfolding meets counts
+unfolding meets is-so-many
 so-many-fixed n c piece = refl
 
 pub same-length : (a b : Bytes) → same-bytes a b ≡ true → length a ≡ length b

@@ -2,21 +2,21 @@
 -- checked string is large: "A string has at most 254 tests." Assumes nothing.
 use Prim.Native.Nat.{ℕ, zero, suc, _+_, _*_, _≤_, _<_}
 use native.Mathlib.Omega.{arith}
-use mathlib.Core.Path.{_≡_, refl, ap, _∙_, sym}
+use mathlib.Core.Path.{_≡_, refl}
 use mathlib.Core.Bool.{Bool, true, false}
 use mathlib.Core.List.{List, [], _∷_}
 use mathlib.Core.Option.{Option, none, some}
 use lib.Dec.{eqb}
 use lib.ListN.{length}
 use Rattle.paper.specs.Bytes.{Bytes, if_then_else_, ch, is-digit}
-use Rattle.paper.specs.Codes.{Test, Pattern, Plain, Conversion, Operand, Elm, Kind}
+use Rattle.paper.specs.Codes.{Test, Pattern, Plain, Conversion, Elm, Kind}
 use Rattle.paper.specs.Grammar.{Reader, follow, gives, ahead, this, choose, more-digits, quoted, class-letter, count-test, literal-test, test, tests}
 use Rattle.paper.specs.Grammar.{pattern, pattern-list, pattern-code, parted, closed-by, as-plain, group-code, extract-code, length-code, character-code}
 use Rattle.paper.specs.Grammar.{scales, flag, credit-letter, fill-part, mask-code, is-separator, date-after, date-code, masking-code, conversion}
 use Rattle.paper.specs.Grammar.{repeats, attribute-elm, literal-elm, previous-elm, multiply-elm, bracket-elm, converting-elm, operator-elm, elm}
 use Rattle.paper.specs.Patterns.{tests-in}
 use Rattle.paper.specs.Checking.{conversion-kind, shape}
-use Rattle.paper.proofs.Predicates.{Reads, reads, reads-not, reads-after, reads-either, reads-ahead, All, none-of, and-all}
+use Rattle.paper.proofs.Predicates.{Reads, reads, reads-not, reads-after, reads-ahead, All, none-of, and-all}
 use Rattle.paper.proofs.Splitting.{Told, absent, present, told, told-map}
 use Rattle.paper.proofs.Eating.{Eats, told-follow, eating, eats-a-byte, eats-quoted, conversion-eats, elm-eats}
 

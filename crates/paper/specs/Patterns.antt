@@ -18,13 +18,13 @@ every p [] = true
 every p (b ∷ bs) = p b && every p bs
 
 -- "0 meaning any number and none"
-unfoldable pub counts : ℕ → Bytes → Bool
-counts zero part = true
-counts (suc n) part = eqb (length part) (suc n)
+unfoldable pub is-so-many : ℕ → Bytes → Bool
+is-so-many zero part = true
+is-so-many (suc n) part = eqb (length part) (suc n)
 
 -- a part meets a test
 unfoldable pub meets : Test → Bytes → Bool
-meets (Test.so-many n c) part = counts n part && every (of-class c) part
+meets (Test.so-many n c) part = is-so-many n part && every (of-class c) part
 meets (Test.literal bs) part = same-bytes part bs
 
 -- some cut of the bytes in two, into a part and what is left

@@ -18,7 +18,7 @@ use Rattle.codes.specs.declared.Fill.{Fill}
 use Rattle.codes.specs.declared.Plain.{Plain}
 use Rattle.codes.specs.declared.Separator.{Separator}
 use Rattle.codes.specs.declared.Conversion.{Conversion}
-use Rattle.readers.specs.Places.{Placed, fails}
+use Rattle.readers.specs.Places.{Placed, follow, gives, fails}
 use Rattle.readers.specs.Reading as place
 use Rattle.readers.proofs.Agreement.{Agree, neither, both, Agrees, no-more, option, gives-agrees, fails-agrees, chooses, aheads, digit-aheads, numeral-aheads, follow-agrees, choose-agrees, num-agrees, only-if-agrees, this-agrees, flag-agrees}
 use Rattle.readers.proofs.PatternReads.{patterns-end}
@@ -135,11 +135,12 @@ module _ {s : Bytes} {low : ℕ} where
 
   -- `P` and its patterns
   pattern-code-agrees : Agrees (conversion-of s) s low place.pattern-code paper.pattern-code
-  unfolding place.pattern-code paper.pattern-code conversion-of patterns-at
+  unfolding place.pattern-code place.skimmed paper.pattern-code conversion-of patterns-at
   pattern-code-agrees = record { at = λ n l u. go n l (paper.pattern-list (drop n s)) refl }
     where
       go : (at : ℕ) → low ≤ at → (o : Option (List codes.Pattern × Bytes)) → paper.pattern-list (drop at s) ≡ o
-          → Agree (conversion-of s) s low (place.patterned s at o) (paper.follow o (λ ps. paper.gives (codes.patterns ps)))
+          → Agree (conversion-of s) s low (follow (place.skimmed tests-in s o) (λ tests. gives (Conversion.Patterns at tests)) s)
+          (paper.follow o (λ ps. paper.gives (codes.patterns ps)))
       go at l none e = neither
       go at l (some r) e =
           let n = length s - length (r .1) in

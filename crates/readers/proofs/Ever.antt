@@ -1,7 +1,7 @@
 -- What a reader by place reads, wherever it reads: a law for each way of going on. Assumes nothing.
 use mathlib.Core.Path.{_≡_, refl}
 use mathlib.Core.Bool.{Bool, true, false}
-use mathlib.Core.List.{List, [], _∷_}
+use mathlib.Core.List.{List}
 use mathlib.Core.Option.{Option, none, some}
 use Prim.Native.Nat.{ℕ, _≤_}
 use lib.Dec.{eqb}
@@ -16,9 +16,18 @@ read-has {A} {P} {o} {a} {n} p e = has (rw e at p)
     has : Reads P (some (a, n)) → P a
     has (reads q) = q
 
+-- what follows from what was told
+pub reads-as : {A : Type 0} {P Q : A → Type 0} {o : Option (A × ℕ)} → ((a : A) → P a → Q a) → Reads P o → Reads Q o
+reads-as f (reads {r = r} p) = reads (f (r .0) p)
+reads-as f reads-not = reads-not
+
 -- wherever it reads
 abbrev pub Ever : {A : Type 0} → (A → Type 0) → Bytes → Placed A → Type 0
 Ever P s r = (n : ℕ) → Reads P (r s n)
+
+-- what is given wherever it is asked for
+pub gives-reads : {A : Type 0} {P : A → Type 0} {a : A} → P a → (n : ℕ) → Reads P (some (a, n))
+gives-reads p n = reads p
 
 pub follow-then : {A B : Type 0} {P : A → Type 0} {Q : B → Type 0} {s : Bytes} {o : Option (A × ℕ)} (k : A → Placed B) → Reads P o
     → ((a : A) → P a → Ever Q s (k a)) → Reads Q (follow o k s)

@@ -10,5 +10,6 @@ pub mod Skimming
 pub mod PatternReads
 pub mod AgreementLines
 pub mod Ever
+pub mod Kept
 pub mod Counted
 pub mod Settled

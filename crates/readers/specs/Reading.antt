@@ -2,13 +2,12 @@
 -- as the enums of `codes`.
 use Prim.Native.Nat.{ℕ, _-_}
 use mathlib.Core.Bool.{Bool, true, false, not, _||_}
-use mathlib.Core.List.{List, [], _∷_}
+use mathlib.Core.List.{[], _∷_}
 use mathlib.Core.Option.{Option, none, some}
 use lib.ListN.{length, drop}
 use lib.Dec.{ltb}
 use Rattle.paper.specs.Bytes.{Bytes, ch, within, is-digit, digit-value}
 use Rattle.paper.specs.Sizes.{is-mark}
-use Rattle.paper.specs.Codes as codes
 use Rattle.paper.specs.Grammar.{is-separator, pattern-list}
 use Rattle.paper.specs.Patterns.{tests-in}
 use Rattle.codes.specs.declared.Credit.{Credit}
@@ -18,7 +17,7 @@ use Rattle.codes.specs.declared.Separator.{Separator}
 use Rattle.codes.specs.declared.Class.{Class}
 use Rattle.codes.specs.declared.Test.{Test}
 use Rattle.codes.specs.declared.Conversion.{Conversion}
-use Rattle.readers.specs.Places.{Placed, _>>=_, _>>_, gives, fails, only-if, ahead, digit-ahead, choose, choose-or, this, flag}
+use Rattle.readers.specs.Places.{Placed, follow, _>>=_, _>>_, gives, fails, only-if, ahead, digit-ahead, choose, choose-or, this, flag}
 use Rattle.readers.specs.Places.{numeral-ahead, num, literal}
 
 -- `G{num}x num`, "x any byte not a digit or mark"
@@ -161,12 +160,8 @@ skimmed size s none = none
 skimmed size s (some r) = some (size (r .0), length s - length (r .1))
 
 -- "`P` and one or more patterns": where they begin, and the tests in all of them
-abbrev pub patterned : Bytes → ℕ → Option (List codes.Pattern × Bytes) → Option (Conversion × ℕ)
-patterned s at none = none
-patterned s at (some r) = some (Conversion.Patterns at (tests-in (r .0)), length s - length (r .1))
-
 unfoldable pub pattern-code : Placed Conversion
-pattern-code s at = patterned s at (pattern-list (drop at s))
+pattern-code s at = follow (skimmed tests-in s (pattern-list (drop at s))) (λ tests. gives (Conversion.Patterns at tests)) s
 
 abbrev pub plained : Option (Plain × ℕ) → Option (Conversion × ℕ)
 plained none = none

@@ -1,7 +1,6 @@
 -- `convert::most_steps` meets its contract: the paper's number, and nothing wraps. Assumes nothing.
 use mathlib.Core.Path.{sym}
 use native.Mathlib.Omega.{arith}
-use borrow.Author.Needs.{needs}
 use Rattle.paper.proofs.Ceiling.{ceiling-read}
 use Rattle.convert.proofs.Counting.{loads-fit, counted-fit, ceiling-fits}
 use Rattle.convert.proofs.most_steps.Statement.{statement}

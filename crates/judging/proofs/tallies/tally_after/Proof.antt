@@ -1,7 +1,5 @@
 -- `tallies::tally_after` meets its contract: shape, entries and steps are each what the tally has. Assumes nothing.
-use mathlib.Core.Path.{ap}
 use borrow.Author.Needs.{needs}
-use Rattle.judging.specs.Tallies.{counts-in, step-kind, steps}
 use Rattle.judging.proofs.Tallying.{kind-back, after-is}
 use Rattle.judging.proofs.tallies.tally_after.Statement.{statement}
 use Rattle.judging.proofs.tallies.tally_after.Tie as tie
