@@ -3,7 +3,7 @@ use mathlib.Core.Path.{_≡_, refl, ap, _∙_}
 use mathlib.Core.Bool.{Bool, true, false, _&&_}
 use mathlib.Core.List.{[], _∷_, _++_}
 use mathlib.Core.Option.{Option, none, some}
-use Prim.Native.Nat.{ℕ, _+_, _-_, _*_, _^_, _≤_, _<_}
+use Prim.Native.Nat.{ℕ, _+_, _-_, _≤_, _<_}
 use native.Mathlib.Omega.{arith}
 use lib.Dec.{leb, ltb, eqb}
 use lib.ListN.{length, replicate, length-append, length-replicate}
@@ -13,7 +13,7 @@ use Rattle.paper.specs.Sizes.{number-most, entry-most}
 use Rattle.paper.specs.Refusals.{Res, given, refused, _>>=_, _>>_, refuse_unless_}
 use Rattle.paper.specs.Numbers.{Number as Whole, signed, numeric, ranged}
 use Rattle.paper.specs.Codes.{Mask}
-use Rattle.paper.specs.Masks.{on-number, number-gives, rounded, scaled, masked-text, laid-out, blank-text, number-masked, mask-gives}
+use Rattle.paper.specs.Masks.{on-number, number-gives, scaled-size, scaled, masked-text, laid-out, blank-text, number-masked, mask-gives}
 use Rattle.paper.specs.Steps.{limited}
 use Rattle.paper.proofs.Predicates.{Holds, holds, refuses, holds-after}
 use Rattle.masks.specs.declared.scaling.Scaling.{Scaling}
@@ -26,8 +26,8 @@ never : {G : Type 0} → _≡_ {A = ℕ} 0 1 → G
 never e = absurd (omega arith)
 
 -- the paper's scaled size
-abbrev scaled-size : Mask → Whole → ℕ
-scaled-size k x = rounded (x .negative) (x .size * 10 ^ (k .decimals - k .scale)) (10 ^ (k .scale - k .decimals))
+abbrev size-of : Mask → Whole → ℕ
+size-of k x = scaled-size (k .decimals) (k .scale) (x .size)
 
 -- a size in range is what was scaled; none is out of range
 in-range : (n m : ℕ) {r : Scaling} → r ≡ Scaling.Size n → r ≡ scaling-of m → (n ≡ m) × (m ≤ number-most)
@@ -53,22 +53,22 @@ module _ (k : Mask) (x : Whole) where
   unfolding number-masked
   blanked e = rw e
 
-  pub size-ranged : (n : ℕ) {r : Scaling} → r ≡ Scaling.Size n → r ≡ scaling-of (scaled-size k x) → n ≤ number-most
-  size-ranged n found e = omega (arith, in-range n (scaled-size k x) found e)
+  pub size-ranged : (n : ℕ) {r : Scaling} → r ≡ Scaling.Size n → r ≡ scaling-of (size-of k x) → n ≤ number-most
+  size-ranged n found e = omega (arith, in-range n (size-of k x) found e)
 
   module _ (e : k .blank-zero && eqb (x .size) 0 ≡ false) where
     -- 10 is tried on the scaled value
-    pub beyond : {r : Scaling} {m n : ℕ} → r ≡ Scaling.Refused m → n ≡ scaling-refusal r → r ≡ scaling-of (scaled-size k x) → number-masked k x ≡ refused n
+    pub beyond : {r : Scaling} {m n : ℕ} → r ≡ Scaling.Refused m → n ≡ scaling-refusal r → r ≡ scaling-of (size-of k x) → number-masked k x ≡ refused n
     unfolding number-masked ranged scaled signed
-    beyond found f h = let out = outside (scaled-size k x) found f h in rw (e, out .0, lt-leb (scaled-size k x) number-most (out .1))
+    beyond found f h = let out = outside (size-of k x) found f h in rw (e, out .0, lt-leb (size-of k x) number-most (out .1))
 
     -- "The sign is that of the rounded value."
-    pub laid : (n : ℕ) {r : Scaling} → r ≡ Scaling.Size n → r ≡ scaling-of (scaled-size k x)
+    pub laid : (n : ℕ) {r : Scaling} → r ≡ Scaling.Size n → r ≡ scaling-of (size-of k x)
         → laid-out (k .left) (k .filled) (masked-text k (record { negative = x .negative && ltb 0 n; size = n })) ≡ number-masked k x
     unfolding number-masked ranged scaled signed
     laid n found h =
-        let same = in-range n (scaled-size k x) found h in
-        rw (e, same .0, le-leb (scaled-size k x) number-most (same .1))
+        let same = in-range n (size-of k x) found h in
+        rw (e, same .0, le-leb (size-of k x) number-most (same .1))
 
 -- no text is wider than the widest mask
 abbrev Narrow : Bytes → Type 0

@@ -4,19 +4,19 @@ use mathlib.Core.Bool.{Bool, true, false}
 use Prim.Native.Nat.{ℕ, _+_, _-_, _*_, _/_, _%_, _^_, _≤_, _<_}
 use native.Mathlib.Nat.{mul-one, mod-one, div-one, div-add-mod, mul-le-mul-right, pow-le-pow-right, le-div-iff-mul-le, div-lt-iff-lt-mul}
 use native.Mathlib.Omega.{arith}
-use lib.Dec.{leb, ltb}
-use borrow.Author.Tests.{le-leb, lt-leb, leb-true, ltb-true}
+use lib.Dec.{leb}
+use borrow.Author.Tests.{le-leb, lt-leb, leb-true}
 use Rattle.paper.specs.Bytes.{if_then_else_}
 use Rattle.paper.specs.Sizes.{number-most}
-use Rattle.paper.specs.Masks.{rounded}
+use Rattle.paper.specs.Masks.{rounded, scaled-size}
 use Rattle.paper.proofs.Numerals.{pow-pos}
 use Rattle.masks.specs.declared.scaling.Scaling.{Scaling}
 use Rattle.masks.specs.Scaling.{scaling-of}
 
 -- rounding never makes a size larger: a half that is dropped is at least one
-pub rounded-below : (negative : Bool) (size over : ℕ) → 0 < over → rounded negative size over ≤ size
+pub rounded-below : (size over : ℕ) → 0 < over → rounded size over ≤ size
 unfolding rounded
-rounded-below negative size over some = go negative
+rounded-below size over some = go (leb over (2 * (size % over))) refl
   where
     parts : over * (size / over) + size % over ≡ size
     parts = div-add-mod size over
@@ -24,19 +24,14 @@ rounded-below negative size over some = go negative
     least : size / over ≤ over * (size / over)
     least = omega (arith, mul-le-mul-right (size / over) some)
 
-    pick : (t : Bool) → (t ≡ true → over ≤ 2 * (size % over)) → (if t then size / over + 1 else size / over) ≤ size
-    pick true h = omega (arith, h refl, parts, least)
-    pick false h = omega (arith, parts, least)
-
-    go : (t : Bool) → (if (if t then ltb over (2 * (size % over)) else leb over (2 * (size % over))) then size / over + 1 else size / over) ≤ size
-    go true = pick (ltb over (2 * (size % over))) (λ e. omega (arith, ltb-true over (2 * (size % over)) e))
-    go false = pick (leb over (2 * (size % over))) (λ e. leb-true over (2 * (size % over)) e)
+    go : (t : Bool) → leb over (2 * (size % over)) ≡ t → (if t then size / over + 1 else size / over) ≤ size
+    go true e = omega (arith, leb-true over (2 * (size % over)) e, parts, least)
+    go false e = omega (arith, parts, least)
 
 -- nothing is dropped over one
-rounded-one : (negative : Bool) (size : ℕ) → rounded negative size 1 ≡ size
+rounded-one : (size : ℕ) → rounded size 1 ≡ size
 unfolding rounded
-rounded-one true size = rw (mod-one size, div-one size)
-rounded-one false size = rw (mod-one size, div-one size)
+rounded-one size = rw (mod-one size, div-one size)
 
 pub power-within : (k : ℕ) → k ≤ 9 → (0 < 10 ^ k) × (10 ^ k ≤ number-most)
 power-within k h = (pow-pos k, omega (arith, pow-le-pow-right {n = 10} (omega arith) {i = k} {j = 9} h))
@@ -56,27 +51,28 @@ too-large : (n : ℕ) → number-most < n → Scaling.Refused 10 ≡ scaling-of 
 unfolding scaling-of
 too-large n h = rw (lt-leb n number-most h)
 
-module _ (negative : Bool) (size decimals scale : ℕ) where
+module _ (size decimals scale : ℕ) where
   -- m at least n: digits are dropped
-  pub scaled-down : (r over : ℕ) → size ≤ number-most → decimals ≤ scale → over ≡ 10 ^ (scale - decimals) → r ≡ rounded negative size over
-      → Scaling.Size r ≡ scaling-of (rounded negative (size * 10 ^ (decimals - scale)) (10 ^ (scale - decimals)))
+  pub scaled-down : (r over : ℕ) → size ≤ number-most → decimals ≤ scale → over ≡ 10 ^ (scale - decimals) → r ≡ rounded size over
+      → Scaling.Size r ≡ scaling-of (scaled-size decimals scale size)
+  unfolding scaled-size
   scaled-down r over ranged h e f =
       let none : decimals - scale ≡ 0 = omega arith in
-      let below : rounded negative size (10 ^ (scale - decimals)) ≤ size = rounded-below negative size (10 ^ (scale - decimals)) (pow-pos (scale - decimals)) in
-      let same : r ≡ rounded negative size (10 ^ (scale - decimals)) = f ∙ ap (rounded negative size) e in
-      rw (same, none, mul-one size) (sized (rounded negative size (10 ^ (scale - decimals))) (omega arith))
+      let below : rounded size (10 ^ (scale - decimals)) ≤ size = rounded-below size (10 ^ (scale - decimals)) (pow-pos (scale - decimals)) in
+      let same : r ≡ rounded size (10 ^ (scale - decimals)) = f ∙ ap (rounded size) e in
+      rw (same, none, mul-one size) (sized (rounded size (10 ^ (scale - decimals))) (omega arith))
 
   -- n over m: digits are added
-  added : (times : ℕ) → scale ≤ decimals → times ≡ 10 ^ (decimals - scale)
-      → size * times ≡ rounded negative (size * 10 ^ (decimals - scale)) (10 ^ (scale - decimals))
+  added : (times : ℕ) → scale ≤ decimals → times ≡ 10 ^ (decimals - scale) → size * times ≡ scaled-size decimals scale size
+  unfolding scaled-size
   added times h e =
       let none : scale - decimals ≡ 0 = omega arith in
-      rw (none, e) (sym (rounded-one negative (size * 10 ^ (decimals - scale))))
+      rw (none, e) (sym (rounded-one (size * 10 ^ (decimals - scale))))
 
   pub scaled-up : (times : ℕ) → scale ≤ decimals → times ≡ 10 ^ (decimals - scale) → size ≤ number-most / times
-      → Scaling.Size (size * times) ≡ scaling-of (rounded negative (size * 10 ^ (decimals - scale)) (10 ^ (scale - decimals)))
+      → Scaling.Size (size * times) ≡ scaling-of (scaled-size decimals scale size)
   scaled-up times h e within = sized (size * times) (times-within size times (decimals - scale) e within) ∙ ap scaling-of (added times h e)
 
   pub scaled-beyond : (times : ℕ) → scale ≤ decimals → times ≡ 10 ^ (decimals - scale) → number-most / times < size
-      → Scaling.Refused 10 ≡ scaling-of (rounded negative (size * 10 ^ (decimals - scale)) (10 ^ (scale - decimals)))
+      → Scaling.Refused 10 ≡ scaling-of (scaled-size decimals scale size)
   scaled-beyond times h e beyond = too-large (size * times) (times-beyond size times (decimals - scale) e beyond) ∙ ap scaling-of (added times h e)

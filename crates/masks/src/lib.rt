@@ -57,7 +57,7 @@ fn number_masked(x: Number, mask: Mask, out: &mut [u8]) -> Given
     if blank_zero & (element == 0) {
         return blank_text(filled, out);
     }
-    let scaled = scaling::scaled(negative, element, mask.decimals, mask.scale);
+    let scaled = scaling::scaled(element, mask.decimals, mask.scale);
     let Scaling::Size(size) = scaled else {
         return Given::Refused(scaled.refusal());
     };

@@ -1,9 +1,9 @@
 // "The element over ten to the m is shown with n decimals": the size of the scaled number.
 use numbers::writing;
 ghost use mathlib.Core.Path.{_≡_};
-ghost use Prim.Native.Nat.{_*_, _-_, _^_, _≤_, _<_};
+ghost use Prim.Native.Nat.{_≤_, _<_};
 ghost use Rattle.paper.specs.Sizes.{number-most};
-ghost use Rattle.paper.specs.Masks.{rounded};
+ghost use Rattle.paper.specs.Masks.{rounded, scaled-size};
 ghost use Rattle.masks.specs.Scaling.{scaling-of, scaling-refusal};
 
 // A scaled size, or the refusal's number.
@@ -25,13 +25,13 @@ impl Scaling {
 }
 
 // a size over ten to the m, with n decimals; one out of range is never made
-pub(crate) fn scaled(negative: bool, size: u64, decimals: u64, scale: u64) -> Scaling
+pub(crate) fn scaled(size: u64, decimals: u64, scale: u64) -> Scaling
     requires { ⌜ (size ≤ number-most) × (decimals ≤ 9) × (scale ≤ 9) ⌝ }
-    ensures { λ r. ⌜ r ≡ scaling-of (rounded negative (size * 10 ^ (decimals - scale)) (10 ^ (scale - decimals))) ⌝ }
+    ensures { λ r. ⌜ r ≡ scaling-of (scaled-size decimals scale size) ⌝ }
 {
     if decimals <= scale {
         let over = writing::power((scale - decimals) as usize);
-        return Scaling::Size(rounded(negative, size, over));
+        return Scaling::Size(rounded(size, over));
     }
     let times = writing::power((decimals - scale) as usize);
     if numbers::MOST / times < size {
@@ -40,16 +40,15 @@ pub(crate) fn scaled(negative: bool, size: u64, decimals: u64, scale: u64) -> Sc
     Scaling::Size(size * times)
 }
 
-// "dropped digits round to nearest, halves toward plus infinity"
-fn rounded(negative: bool, size: u64, over: u64) -> u64
+// "dropped digits round to nearest", "Halves are to round away from zero" (document 02, L2): of a size, up
+fn rounded(size: u64, over: u64) -> u64
     requires { ⌜ (size ≤ number-most) × (0 < over) × (over ≤ number-most) ⌝ }
-    ensures { λ r. ⌜ r ≡ rounded negative size over ⌝ }
+    ensures { λ r. ⌜ r ≡ rounded size over ⌝ }
 {
     let twice = 2 * (size % over);
-    let up = if negative {
-        over < twice
+    if over <= twice {
+        size / over + 1
     } else {
-        over <= twice
-    };
-    if up { size / over + 1 } else { size / over }
+        size / over
+    }
 }

@@ -15,7 +15,7 @@ use Rattle.paper.specs.Grammar.{this, flag, choose, more-digits, numeral
 use Rattle.paper.specs.Checking.{conversion-kind, shape, stacked, all-stacked, lawful, judged, judged-all, code-texts, check, together, step-counts, elms-counts, code-counts, codes-counts, report, codes-of, checked-codes}
 use Rattle.paper.specs.Patterns.{of-class, every, is-so-many, meets, some-cut, passes, some-passes, patterns-give, tests-in}
 use Rattle.paper.specs.Texts.{raised, lowered, titled, hex-digit, hexed, hex-value, unhexed, plain-gives}
-use Rattle.paper.specs.Masks.{number-gives, rounded, scaled, grouped, integer-text, point-text, digits-text, before-digits, after-digits, masked-text, laid-out, blank-text, number-masked, mask-gives}
+use Rattle.paper.specs.Masks.{number-gives, rounded, scaled-size, scaled, grouped, integer-text, point-text, digits-text, before-digits, after-digits, masked-text, laid-out, blank-text, number-masked, mask-gives}
 use Rattle.paper.specs.Dates.{leap, month-lengths, month-names, days-before-year, year-of, month-day, date-of, ranged-day, year-text, date-text, date-gives}
 use Rattle.paper.specs.Steps.{onward, stepped, conversion-gives, load-path, operand, bytes-in, charged, price, step-ceiling, top-entry, limited, elm-puts, elm-step, conversion-step, elms-run, code-run, codes-run, element-run}
 use Rattle.paper.specs.Converting.{Outcome, subvalues, values, from-one, elements-in, elements-of, elements, elements-run, within-budget, lawful-place, lawful-code, ready, run, fitted, finished, carried-out, convert, elms-ceiling, code-ceiling, codes-ceiling, ceiling-over, ceiling, counted-ceiling}
@@ -44,7 +44,7 @@ with-steps o = decimal (refusal-of (o .answer)) ++ ch " " ∷ decimal (o .steps)
 
 -- What it tells: the refusal, the steps where they are asked for, and the answer, marks drawn; a ceiling; a check's refusal.
 told : Example → Bytes
-unfolding bytes is-digit is-upper is-lower is-letter digit-value any only same-bytes is-mark is-outer-mark is-inner-mark entry-most scratch-least split join placed pieces nth path part-at whole id-of place lawful-id lawful-record lawful-address reads signed natural value numeric ranged number digits trimmed decimal number-text negated plus times quotient remainder below bytes-below compared holds binary-gives substring-gives this flag choose more-digits numeral num quoted closed-by class-letter count-test literal-test test tests pattern pattern-list pattern-code separator group-after group-code extract-from extract-code admit-from length-after length-code except-code character-code scales credit-letter fill-byte fill-width fill-part mask-code is-separator date-after date-code masking-code conversion repeats attribute-elm literal-elm previous-elm multiply-elm bracket-elm converting-elm operator-elm elm parted elms function-code code read of-class every is-so-many meets some-cut passes some-passes patterns-give tests-in conversion-kind shape stacked all-stacked lawful judged judged-all code-texts check together step-counts elms-counts code-counts codes-counts report checked-codes raised lowered titled hex-digit hexed hex-value unhexed plain-gives number-gives rounded scaled grouped integer-text point-text digits-text before-digits after-digits masked-text laid-out blank-text number-masked mask-gives leap month-lengths month-names days-before-year year-of month-day date-of ranged-day year-text date-text date-gives onward stepped conversion-gives load-path operand bytes-in charged price step-ceiling top-entry limited elm-puts elm-step conversion-step elms-run code-run codes-run element-run subvalues values from-one elements-in elements-of elements elements-run within-budget lawful-place lawful-code ready run fitted finished carried-out convert elms-ceiling code-ceiling codes-ceiling ceiling-over ceiling counted-ceiling drawn printed marked
+unfolding bytes is-digit is-upper is-lower is-letter digit-value any only same-bytes is-mark is-outer-mark is-inner-mark entry-most scratch-least split join placed pieces nth path part-at whole id-of place lawful-id lawful-record lawful-address reads signed natural value numeric ranged number digits trimmed decimal number-text negated plus times quotient remainder below bytes-below compared holds binary-gives substring-gives this flag choose more-digits numeral num quoted closed-by class-letter count-test literal-test test tests pattern pattern-list pattern-code separator group-after group-code extract-from extract-code admit-from length-after length-code except-code character-code scales credit-letter fill-byte fill-width fill-part mask-code is-separator date-after date-code masking-code conversion repeats attribute-elm literal-elm previous-elm multiply-elm bracket-elm converting-elm operator-elm elm parted elms function-code code read of-class every is-so-many meets some-cut passes some-passes patterns-give tests-in conversion-kind shape stacked all-stacked lawful judged judged-all code-texts check together step-counts elms-counts code-counts codes-counts report checked-codes raised lowered titled hex-digit hexed hex-value unhexed plain-gives number-gives rounded scaled-size scaled grouped integer-text point-text digits-text before-digits after-digits masked-text laid-out blank-text number-masked mask-gives leap month-lengths month-names days-before-year year-of month-day date-of ranged-day year-text date-text date-gives onward stepped conversion-gives load-path operand bytes-in charged price step-ceiling top-entry limited elm-puts elm-step conversion-step elms-run code-run codes-run element-run subvalues values from-one elements-in elements-of elements elements-run within-budget lawful-place lawful-code ready run fitted finished carried-out convert elms-ceiling code-ceiling codes-ceiling ceiling-over ceiling counted-ceiling drawn printed marked
 told (converting item code a v s budget) =
     with-steps (convert (map marked (bytes item)) (bytes code) a v s budget record-most scratch-least)
 told (at-most item code a v s) =
@@ -106,9 +106,18 @@ slips =
     -- `[` is less or equal, `]` greater or equal
     ∷ row (giving "F;'1';'2';[" "") "0 1"
     ∷ row (giving "F;'1';'2';]" "") "0 0"
-    -- halves toward plus infinity
+    -- halves away from zero (document 02, L2), and zero has no sign
     ∷ row (giving "MR01" "25") "0 3"
-    ∷ row (giving "MR01" "-25") "0 -2"
+    ∷ row (giving "MR01" "-25") "0 -3"
+    ∷ row (giving "MR01" "-24") "0 -2"
+    ∷ row (giving "MR01" "-26") "0 -3"
+    ∷ row (giving "MR01" "-5") "0 -1"
+    ∷ row (giving "MR01" "-4") "0 0"
+    ∷ row (giving "MR01C" "-5") "0 1CR"
+    ∷ row (giving "MR01C" "-4") "0 0  "
+    ∷ row (giving "MR01Z" "-4") "0 0"
+    ∷ row (giving "MR01(#1)" "25") "0 3"
+    ∷ row (giving "MR01(#1)" "-25") "14 "
     -- a checked string holds at most sixteen entries
     ∷ row (checking "F;1;1;1;1;1;1;1;1;1;1;1;1;1;1;1;1") "0"
     ∷ row (checking "F;1;1;1;1;1;1;1;1;1;1;1;1;1;1;1;1;1") "7"

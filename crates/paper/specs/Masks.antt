@@ -1,10 +1,10 @@
--- Document 01, "What each code gives": ML and MR on one element.
+-- Document 01, "What each code gives", and document 02, L2: ML and MR on one element.
 use Prim.Native.Nat.{ℕ, zero, suc, _+_, _-_, _*_, _/_, _%_, _^_}
 use mathlib.Core.Bool.{Bool, _&&_, _||_}
 use mathlib.Core.List.{[], _∷_, _++_}
 use mathlib.Core.Option.{Option, none, some}
 use lib.ListN.{length, replicate}
-use lib.Dec.{leb, ltb, eqb}
+use lib.Dec.{leb, eqb}
 use Rattle.paper.specs.Bytes.{Bytes, if_then_else_, ch, bytes}
 use Rattle.paper.specs.Numbers.{Number, signed, numeric, ranged, digits, decimal}
 use Rattle.paper.specs.Codes.{Credit, Mask}
@@ -28,14 +28,17 @@ unfoldable pub number-gives : (Number → Res Bytes) → Bytes → Res Bytes
 number-gives f [] = given []
 number-gives f (b ∷ bs) = on-number f (numeric (b ∷ bs))
 
--- "dropped digits round to nearest, halves toward plus infinity": the size of a number over d, rounded
-unfoldable pub rounded : Bool → ℕ → ℕ → ℕ
-rounded negative size d =
-    if (if negative then ltb d (2 * (size % d)) else leb d (2 * (size % d))) then size / d + 1 else size / d
+-- "dropped digits round to nearest", and by document 02, L2, "Halves are to round away from zero": the size of a number over d, rounded
+unfoldable pub rounded : ℕ → ℕ → ℕ
+rounded size d = if leb d (2 * (size % d)) then size / d + 1 else size / d
 
--- "The element over ten to the m is shown with n decimals (without the point: the scaled value)"; "The sign is that of the rounded value."
+-- "The element over ten to the m is shown with n decimals (without the point: the scaled value)": its size, from n, m and the element's
+unfoldable pub scaled-size : ℕ → ℕ → ℕ → ℕ
+scaled-size n m size = rounded (size * 10 ^ (n - m)) (10 ^ (m - n))
+
+-- "The sign is that of the rounded value."
 unfoldable pub scaled : Mask → Number → Number
-scaled k x = signed (x .negative) (rounded (x .negative) (x .size * 10 ^ (k .decimals - k .scale)) (10 ^ (k .scale - k .decimals)))
+scaled k x = signed (x .negative) (scaled-size (k .decimals) (k .scale) (x .size))
 
 -- digits, first digit first, with a comma before every third from the end
 unfoldable pub grouped : Bytes → Bytes
