@@ -1,3 +1,4 @@
+pub mod Alone
 pub mod Budget
 pub mod Calendar
 pub mod Ceiling
@@ -19,5 +20,6 @@ pub mod Runs
 pub mod Settled
 pub mod Splitting
 pub mod Stack
+pub mod Symmetry
 pub mod Truths
 pub mod Weights

@@ -3,6 +3,8 @@
 use Prim.Native.Nat.{ℕ, _≤_, _<_}
 use mathlib.Core.Path.{_≡_, refl, ap}
 use mathlib.Core.List.{_++_}
+use native.Mathlib.Omega.{arith}
+use lib.Dec.{leb}
 use lib.ListN.{length, drop}
 use borrow.Author.Tests.{le-leb, lt-leb}
 use Rattle.paper.specs.Bytes.{Bytes}
@@ -10,6 +12,7 @@ use Rattle.paper.specs.Sizes.{entry-most}
 use Rattle.paper.specs.Refusals.{Res, given, refused, over-long-entry}
 use Rattle.paper.specs.Answers.{given-of, written}
 use Rattle.paper.specs.Steps.{limited}
+use Rattle.paper.proofs.Refusing.{let-through, never-held}
 use Rattle.paper.specs.declared.Given.{Given}
 use Rattle.paper.specs.declared.Given.the-variants.{Length, Refused}
 
@@ -31,6 +34,18 @@ module _ (most : ℕ) {r : Res Bytes} where
   pub limited-refused : {n : ℕ} → r ≡ refused n → limited most r ≡ refused n
   unfolding limited
   limited-refused e = rw e
+
+-- and back: what is given under the limit was given, and a refusal other than 9 is the result's own
+module _ (most : ℕ) where
+  pub given-within : (r : Res Bytes) {bs : Bytes} → limited most r ≡ given bs → r ≡ given bs
+  unfolding limited
+  given-within (given bs) h = let-through over-long-entry (leb (length bs) most) h
+  given-within (refused n) h = h
+
+  pub refused-before : (n : ℕ) → over-long-entry < n → (r : Res Bytes) → limited most r ≡ refused n → r ≡ refused n
+  unfolding limited
+  refused-before n l (given bs) h = never-held over-long-entry n (leb (length bs) most) bs (λ d. omega arith) h
+  refused-before n l (refused m) h = h
 
 -- what a call answers, and the buffer before and after it
 abbrev pub Answered : Res Bytes → Bytes → Bytes → Given → Type 0

@@ -1,11 +1,26 @@
 -- Tests in their order (document 01, "Numbers that refusals carry"): an answer came exactly where no test refused. Assumes nothing.
 use Prim.Native.Nat.{ℕ}
 use native.Mathlib.Omega.{arith}
-use mathlib.Core.Path.{_≡_, refl}
+use mathlib.Core.Path.{_≡_, refl, sym, ap}
+use mathlib.Core.Bool.{Bool, true, false}
+use mathlib.Core.Logic.{_≢_}
 use mathlib.Core.List.{List, [], _∷_}
-use Rattle.paper.specs.Refusals.{Res, given, refused, _>>_}
+use Rattle.paper.specs.Refusals.{Res, given, refused, _>>_, refuse_unless_, refusal-of}
 pub use Rattle.paper.proofs.Truths.{when-passed}
 use Rattle.paper.proofs.Predicates.{All, none-of, and-all}
+
+-- a refusal is no answer
+pub never-given : {A G : Type 0} {n : ℕ} {a : A} → refused n ≡ given a → G
+never-given e = absurd (let z : _≡_ {A = ℕ} 0 1 = cc in omega arith)
+
+-- an answer that a test let through, and a refusal that is not the test's
+pub let-through : {A : Type 0} (n : ℕ) (t : Bool) {x y : A} → ((refuse n unless t) >> given x) ≡ given y → given x ≡ given y
+let-through n true h = h
+let-through n false h = never-given h
+
+pub never-held : {A G : Type 0} (n m : ℕ) (t : Bool) (x : A) → n ≢ m → ((refuse n unless t) >> given x) ≡ refused m → G
+never-held n m true x d h = never-given (sym h)
+never-held n m false x d h = absurd (d (ap refusal-of h))
 
 -- the tests, and what is answered where none refuses: what a `do` block of tests computes to
 abbrev pub tested : {B : Type 0} → List (Res (Unit {0})) → Res B → Res B
@@ -22,4 +37,4 @@ pass (and-all h hs) e = rw h (pass hs e)
 pub passed : {B : Type 0} (rs : List (Res (Unit {0}))) (k : Res B) {b : B} → tested rs k ≡ given b → Passed rs × (k ≡ given b)
 passed [] k e = (none-of, e)
 passed (given u ∷ rs) k e = let (hs, h) = passed rs k e in (and-all refl hs, h)
-passed (refused n ∷ rs) k e = absurd (let z : _≡_ {A = ℕ} 0 1 = cc in omega arith)
+passed (refused n ∷ rs) k e = never-given e

@@ -1,4 +1,5 @@
 pub mod Demands
 pub mod Rereading
 pub mod Settled
+pub mod Symmetry
 pub mod Told
