@@ -26,11 +26,11 @@
 //!
 //! # The second implementation
 //!
-//! [`paper`] is document 01 with request L1 of document 02 written down once
-//! more in Rust, from these, the two standards and the readings alone. The tests
-//! hold the proved library against it, and the benchmark takes it as its measure.
-//! It builds anywhere; the proved library is for x86-64 and comes in with the
-//! feature `proved`, which is on by default.
+//! [`paper`] is document 01 with requests L1 and L2 of document 02 written down
+//! once more in Rust, from these, the two standards and the readings alone. The
+//! tests hold the proved library against it, and the benchmark takes it as its
+//! measure. It builds anywhere; the proved library is for x86-64 and comes in with
+//! the feature `proved`, which is on by default.
 
 #![deny(unsafe_code)]
 #![warn(missing_docs)]

@@ -144,6 +144,7 @@ fn convert_share(name: &'static str, call: u64, percent: u64) {
             laws::budget(&call, enough, (&outcome, &answer), &again, &both.proved);
         }
         laws::pattern_code(&call, &PROVED, &mut both.proved);
+        laws::mask_code(&call, &PROVED, &mut both.proved);
     });
     coverage.require_of_convert();
 }

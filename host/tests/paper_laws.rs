@@ -80,6 +80,7 @@ fn convert() {
             laws::budget(&call, enough, (&outcome, &answer), &again, &buffers);
         }
         laws::pattern_code(&call, &PAPER, &mut buffers);
+        laws::mask_code(&call, &PAPER, &mut buffers);
     });
     coverage.require_of_convert();
 }

@@ -47,3 +47,9 @@ fn program() {
 fn pattern_codes() {
     vectors::run("L1.tsv", &PAPER);
 }
+
+/// All calls, with halves rounded away from zero.
+#[test]
+fn halves() {
+    vectors::run("L2.tsv", &PAPER);
+}

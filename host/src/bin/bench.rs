@@ -287,6 +287,10 @@ fn workloads() -> Vec<Workload> {
             call: convert(two_columns(), b"F;1;2;*\xfdMR2,$(#16)", 32_768),
         },
         Workload {
+            name: "1,500 halves, every other one negative, through MR24,",
+            call: convert(column(1_500, halves), b"MR24,", 32_768),
+        },
+        Workload {
             name: "dates: 1,500 days through D",
             call: convert(column(1_500, days), b"D", 32_768),
         },
@@ -467,6 +471,12 @@ fn two_columns() -> Vec<u8> {
 fn values(count: u64, value: impl Fn(u64) -> Vec<u8>) -> Vec<u8> {
     let values: Vec<Vec<u8>> = (0..count).map(value).collect();
     values.join(&paper::VALUE_MARK)
+}
+
+/// Numbers of which MR24 drops a half, every other one negative.
+fn halves(number: u64) -> Vec<u8> {
+    let sign = if number % 2 == 1 { "-" } else { "" };
+    format!("{sign}{}", number * 1_234_500 + 50).into_bytes()
 }
 
 /// Days from all over the calendar.

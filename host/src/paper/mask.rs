@@ -101,8 +101,10 @@ pub fn write(mask: Mask, room: &mut [u8], length: usize) -> Result<usize, Refusa
     place(mask, &text[..text_length], room)
 }
 
-/// The value to show, in units of its last decimal: rounded to nearest, halves
-/// toward plus infinity, or multiplied.
+/// The value to show, in units of its last decimal: rounded to nearest or
+/// multiplied. Document 02, L2: "Halves are to round away from zero, so -25 gives
+/// -3, and a number and its negative show the same digits before fill whenever
+/// both are converted. The sign is still that of the rounded value."
 fn scaled(value: i64, mask: Mask) -> Result<i64, Refusal> {
     let decimals = usize::from(mask.decimals.unwrap_or(0));
     let scale = mask.scale.map_or(decimals, usize::from);
@@ -110,8 +112,10 @@ fn scaled(value: i64, mask: Mask) -> Result<i64, Refusal> {
         let product = value.checked_mul(POWERS_OF_TEN[decimals - scale]);
         return number::in_range(product.ok_or(Refusal::OutOfRange)?);
     }
-    let unit = POWERS_OF_TEN[scale - decimals];
-    Ok((value + unit / 2).div_euclid(unit))
+    // Only the size is rounded: the sign has no say in it, and a size of 0 has none.
+    let (unit, size) = (POWERS_OF_TEN[scale - decimals], value.abs());
+    let rounded = size / unit + i64::from(2 * (size % unit) >= unit);
+    Ok(value.signum() * rounded)
 }
 
 /// Writes sign, digits, suffix and `$` into `text` and gives their length.

@@ -5,7 +5,7 @@ use std::fmt;
 use sundewfrill_host::outcome::{
     Address, Ceiling, Check, Convert, Find, Implementation, Replace, TypedDate,
 };
-use sundewfrill_host::{fields, paper};
+use sundewfrill_host::{fields, paper, SCRATCH_LENGTH};
 
 use super::buffers::Buffers;
 
@@ -76,6 +76,18 @@ impl ConvertCall {
         let scratch = buffers.scratch.lend(self.scratch_length);
         let (record, code) = (&self.record, &self.code);
         (implementation.convert)(record, code, self.at, self.budget, output, scratch)
+    }
+
+    /// One element converted by itself, with budget and room enough for any code.
+    pub fn of_element(code: &[u8], element: &[u8]) -> Self {
+        ConvertCall {
+            record: [b"K1\xfe", element].concat(),
+            code: code.to_vec(),
+            at: Address::new(1, 1, 1),
+            budget: u64::MAX,
+            output_length: paper::ENTRY_LENGTH,
+            scratch_length: SCRATCH_LENGTH,
+        }
     }
 
     /// The call for the ceiling of this one.

@@ -1,5 +1,5 @@
-//! The examples of document 01 and of request L1 of document 02, and the points
-//! at which their readings part.
+//! The examples of document 01 and of requests L1 and L2 of document 02, and the
+//! points at which their readings part.
 
 use sundewfrill_host::outcome::{Address, Ceiling, Check, Convert, Implementation, TypedDate};
 use sundewfrill_host::{paper, SCRATCH_LENGTH};
@@ -43,13 +43,13 @@ fn converted(
 
 /// The refusal number and the answer of `code` on one element.
 fn given(implementation: &Implementation, code: &str, element: &str) -> (u64, String) {
-    let record = [b"K1\xfe", element.as_bytes()].concat();
-    let at = Address::new(1, 1, 1);
-    let code = code.as_bytes();
-    let (outcome, answer) = converted(implementation, &record, code, at, u64::MAX);
+    let call = ConvertCall::of_element(code.as_bytes(), element.as_bytes());
+    let mut buffers = Buffers::default();
+    let outcome = call.run(implementation, &mut buffers);
+    let answer = &buffers.output.after()[..outcome.length as usize];
     (
         outcome.refusal,
-        String::from_utf8_lossy(&answer).into_owned(),
+        String::from_utf8_lossy(answer).into_owned(),
     )
 }
 
@@ -58,6 +58,7 @@ pub fn run(implementation: &Implementation) {
     counted(implementation);
     ceilings(implementation);
     single_codes(implementation);
+    halves(implementation);
     patterns(implementation);
     pattern_prices(implementation);
     lengths(implementation);
@@ -126,9 +127,24 @@ fn ceilings(implementation: &Implementation) {
     assert_eq!((outcome.refusal, outcome.ceiling), (2, 0));
 }
 
+/// A code, an element, and what that gives: a refusal number and an answer.
+type Given = (&'static str, &'static str, u64, &'static str);
+
+/// Fails unless each code of the table gives what it says.
+fn all_given(implementation: &Implementation, table: &[Given]) {
+    for &(code, element, refusal, answer) in table {
+        let outcome = given(implementation, code, element);
+        assert_eq!(
+            outcome,
+            (refusal, answer.to_owned()),
+            "{code} on {element:?}"
+        );
+    }
+}
+
 /// What single codes give, or with which number they refuse.
 fn single_codes(implementation: &Implementation) {
-    const TABLE: [(&str, &str, u64, &str); 60] = [
+    const TABLE: [Given; 58] = [
         // From the paper.
         ("F;'7';'2';-", "", 0, "5"),
         ("F;'-7';'2';/", "", 0, "-3"),
@@ -144,8 +160,6 @@ fn single_codes(implementation: &Implementation) {
         ("D", "2933629", 10, ""),
         ("MR2", "1234", 0, "12.34"),
         ("MR2M", "-5", 0, "0.05-"),
-        ("MR01", "25", 0, "3"),
-        ("MR01", "-25", 0, "-2"),
         ("MR2(#4)", "1234", 14, ""),
         ("G1*1", "AB*CD*EF", 0, "CD"),
         ("T2,3", "ABCDE", 0, "BCD"),
@@ -192,14 +206,33 @@ fn single_codes(implementation: &Implementation) {
         ("F;'ABC';'-3';'2';[]", "", 0, "AB"),
         ("F;'999999999999999';'10';*1", "", 10, ""),
     ];
-    for (code, element, refusal, answer) in TABLE {
-        let outcome = given(implementation, code, element);
-        assert_eq!(
-            outcome,
-            (refusal, answer.to_owned()),
-            "{code} on {element:?}"
-        );
-    }
+    all_given(implementation, &TABLE);
+}
+
+/// Masks round halves away from zero; nothing else does.
+fn halves(implementation: &Implementation) {
+    const TABLE: [Given; 19] = [
+        ("MR01", "25", 0, "3"),
+        ("MR01", "-25", 0, "-3"),
+        ("MR01", "-24", 0, "-2"),
+        ("MR01", "-26", 0, "-3"),
+        ("MR01", "-5", 0, "-1"),
+        ("MR01", "-4", 0, "0"),
+        ("MR01C", "-5", 0, "1CR"),
+        ("MR01C", "-4", 0, "0  "),
+        ("MR01Z", "-4", 0, "0"),
+        ("MR01Z", "-5", 0, "-1"),
+        ("MR01(#1)", "25", 0, "3"),
+        ("MR01(#1)", "-25", 14, ""),
+        ("MR01,", "-9995", 0, "-1,000"),
+        ("MR24,", "-123456750", 0, "-12,345.68"),
+        ("MR01", "-999999999999995", 0, "-100000000000000"),
+        ("MR90", "1000000", 10, ""),
+        ("MR90", "-1000000", 10, ""),
+        ("F;'-25';'1';*1", "", 0, "-2"),
+        ("F;'-25';'10';/", "", 0, "-2"),
+    ];
+    all_given(implementation, &TABLE);
 }
 
 /// Which elements patterns pass and which they empty, parted by `|`. A P code

@@ -10,6 +10,7 @@ use sundewfrill_host::{paper, SCRATCH_LENGTH};
 
 use super::buffers::{all_zero, Buffers};
 use super::calls::{CeilingCall, CheckCall, ConvertCall, DateCall, FindCall, ReplaceCall};
+use super::masks::{figures, filled, is_number, negated, without_field};
 use super::patterns::{has_cut, patterns, tests};
 
 /// The days of the calendar.
@@ -268,18 +269,28 @@ fn pattern_elements<'c>(
     call: &'c ConvertCall,
     implementation: &Implementation,
 ) -> Option<Vec<&'c [u8]>> {
-    let alone = call.code.starts_with(b"P") && !call.code.contains(&paper::VALUE_MARK);
-    if !alone || call.record.len() > 4_096 {
+    if call.record.len() > 4_096 {
+        return None;
+    }
+    let elements = pieces(taken(call, b"P", implementation)?);
+    let fit = elements.iter().all(|element| element.len() <= 1_024);
+    fit.then_some(elements)
+}
+
+/// What a call takes through one accepted code alone that begins with `letters`;
+/// `None` for another call.
+fn taken<'c>(
+    call: &'c ConvertCall,
+    letters: &[u8],
+    implementation: &Implementation,
+) -> Option<&'c [u8]> {
+    if !call.code.starts_with(letters) || call.code.contains(&paper::VALUE_MARK) {
         return None;
     }
     let found = (implementation.find)(&call.record, call.at);
     let checked = (implementation.check)(&call.code);
-    if (found.refusal, checked.refusal) != (0, 0) {
-        return None;
-    }
-    let elements = pieces(part(&call.record, &found));
-    let fit = elements.iter().all(|element| element.len() <= 1_024);
-    fit.then_some(elements)
+    let accepted = (found.refusal, checked.refusal) == (0, 0);
+    accepted.then(|| part(&call.record, &found))
 }
 
 /// The steps of converting by `code`, and how much it leaves of each of the
@@ -312,6 +323,66 @@ fn given_back(
 /// What stands between the marks of a part.
 fn pieces(part: &[u8]) -> Vec<&[u8]> {
     part.split(|&byte| byte >= paper::LEAST_MARK).collect()
+}
+
+/// A conversion of one number by one ML or MR code alone. Before fill, the number
+/// and its negative show the same digits, point and commas, or both are refused 10;
+/// their texts differ by the sign, unless the digits are zeros or N hides it.
+pub fn mask_code(call: &ConvertCall, implementation: &Implementation, buffers: &mut Buffers) {
+    let Some(number) = masked_number(call, implementation) else {
+        return;
+    };
+    let mut given = |number: &[u8]| before_fill(call, number, implementation, buffers);
+    let both = (given(number), given(&negated(number)));
+    let symmetric = match &both {
+        (Ok(text), Ok(other)) => figures(text) == figures(other),
+        (one, other) => (one, other) == (&Err(10), &Err(10)),
+    };
+    law(symmetric, "a number and its negative", call, &both);
+    if let (Ok(text), Ok(other)) = &both {
+        let zero = !figures(text).contains(|digit| ('1'..='9').contains(&digit));
+        let signless = zero || call.code.contains(&b'N');
+        let signed = (text == other) == signless;
+        law(signed, "the sign of what is shown", call, &both);
+    }
+}
+
+/// The number that a call takes through one ML or MR code alone; `None` for another
+/// call, and for a number that has no room for a sign.
+fn masked_number<'c>(call: &'c ConvertCall, implementation: &Implementation) -> Option<&'c [u8]> {
+    let mut codes = [b"ML", b"MR"].into_iter();
+    let number = codes.find_map(|letters| taken(call, letters, implementation))?;
+    (is_number(number) && number.len() < paper::ENTRY_LENGTH).then_some(number)
+}
+
+/// What a call's code without its field gives of a number, or the number of its
+/// refusal. The field must fill that text up, and be 14 where it is too narrow.
+fn before_fill(
+    call: &ConvertCall,
+    number: &[u8],
+    implementation: &Implementation,
+    buffers: &mut Buffers,
+) -> Result<String, u64> {
+    let mut given = |code: &[u8]| {
+        let outcome = ConvertCall::of_element(code, number).run(implementation, buffers);
+        let answer = &buffers.output.after()[..outcome.length as usize];
+        match outcome.refusal {
+            0 => Ok(answer.escape_ascii().to_string()),
+            refusal => Err(refusal),
+        }
+    };
+    let (bare, field) = without_field(&call.code);
+    let text = given(bare);
+    if let Some(field) = field {
+        let expected = match &text {
+            Ok(text) => filled(bare, text, field).ok_or(14),
+            Err(refusal) => Err(*refusal),
+        };
+        let in_field = given(&call.code);
+        let right = in_field == expected;
+        law(right, "the field of a mask", call, &(&text, in_field));
+    }
+    text
 }
 
 /// An accepted date has a day of the calendar, day 0 without a sign; a refused

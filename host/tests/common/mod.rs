@@ -8,6 +8,7 @@ pub mod coverage;
 pub mod examples;
 pub mod generator;
 pub mod laws;
+pub mod masks;
 pub mod patterns;
 pub mod progress;
 pub mod vectors;

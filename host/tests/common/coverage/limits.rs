@@ -11,6 +11,7 @@ use super::super::calls::{
 };
 use super::super::generator::NEAR_MISSES;
 use super::super::laws::{came_to_end, DAYS};
+use super::masks::{NEGATIVE_HALF, POSITIVE_HALF, SCALED};
 use super::patterns::{PASSES, PATTERN_STRINGS};
 use super::steps::{deepest, STEPS};
 use super::Coverage;
@@ -39,7 +40,8 @@ impl Coverage {
         let refusals: Vec<u64> = (1..=16).collect();
         let steps = STEPS.concat();
         let ends = [NUMBER_ENDS, RESULT_ENDS, DAY_ENDS].concat();
-        let tags: [&[&str]; 6] = [&steps, &PLACES, &strings(), &CONVERTS, &ends, &PASSES];
+        let given = [PASSES.as_slice(), &POSITIVE_HALF, &NEGATIVE_HALF, &SCALED].concat();
+        let tags: [&[&str]; 6] = [&steps, &PLACES, &strings(), &CONVERTS, &ends, &given];
         self.require("convert", &refusals, &tags);
     }
 
@@ -108,7 +110,7 @@ const DAY_ENDS: Ends = [
 ];
 
 /// The greatest number; the least is its negative.
-const LAST_NUMBER: i128 = 999_999_999_999_999;
+pub const LAST_NUMBER: i128 = 999_999_999_999_999;
 
 impl Coverage {
     /// Notes what a finding has reached.
@@ -174,6 +176,7 @@ impl Coverage {
         if part.iter().all(|&byte| byte < LEAST_MARK) {
             self.element(&call.code, part, refusal);
             self.pattern_code(&call.code, part, refusal);
+            self.mask_code(&call.code, part, refusal);
         }
         self.tag_if(accepted && found.found == 0, "missing place");
         let longest = call.record.len() == 32_768;
@@ -357,7 +360,7 @@ fn before_digits(text: &[u8]) -> usize {
 }
 
 /// A number in numeric form, of any size that fits.
-fn number(text: &[u8]) -> Option<i128> {
+pub fn number(text: &[u8]) -> Option<i128> {
     std::str::from_utf8(text).ok()?.parse().ok()
 }
 

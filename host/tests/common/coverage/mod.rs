@@ -1,7 +1,9 @@
 //! What generated calls have reached: every refusal, every code letter, every
-//! elm, every mask option, every kind of test, every limit on both sides.
+//! elm, every mask option, every kind of test, every limit on both sides, and
+//! the halves at which masks round.
 
 mod limits;
+mod masks;
 mod patterns;
 mod steps;
 

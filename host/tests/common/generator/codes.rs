@@ -65,6 +65,7 @@ fn stretch(rng: &mut Rng, string: &mut Vec<u8>) {
 fn code(rng: &mut Rng) -> (Vec<u8>, Kind) {
     match rng.below(30) {
         0 => patterns::function(rng),
+        1 if rng.one_in(4) => rounding_function(rng),
         1..=9 if rng.one_in(3) => (function(rng), Kind::Any),
         1..=9 => (function(rng), Kind::Number),
         _ => conversion(rng),
@@ -183,6 +184,7 @@ fn conversion(rng: &mut Rng) -> (Vec<u8>, Kind) {
         7 => (b"MY".to_vec(), Kind::Hex),
         8..=11 => (date_code(rng), Kind::Day),
         12 | 13 => patterns::code(rng),
+        14 => rounding_mask(rng),
         _ => (mask(rng), Kind::Number),
     }
 }
@@ -252,13 +254,35 @@ pub fn date_code(rng: &mut Rng) -> Vec<u8> {
 
 /// An ML or MR code.
 pub fn mask(rng: &mut Rng) -> Vec<u8> {
-    let mut code = vec![b'M', *rng.pick(b"LR")];
+    let mut digits = String::new();
     if !rng.one_in(4) {
-        code.push(b'0' + rng.small(10) as u8);
+        digits += &rng.small(10).to_string();
         if rng.one_in(2) {
-            code.push(b'0' + rng.small(10) as u8);
+            digits += &rng.small(10).to_string();
         }
     }
+    mask_with(rng, &digits)
+}
+
+/// An ML or MR code that drops digits, and numbers about its halves.
+pub fn rounding_mask(rng: &mut Rng) -> (Vec<u8>, Kind) {
+    let m = rng.between(1, 9);
+    let n = rng.below(m);
+    let code = mask_with(rng, &format!("{n}{m}"));
+    (code, Kind::Half(10_u64.pow((m - n) as u32)))
+}
+
+/// An F code that takes a number through such a mask.
+fn rounding_function(rng: &mut Rng) -> (Vec<u8>, Kind) {
+    let (code, kind) = rounding_mask(rng);
+    let function = [b"F;LPV;(", code.as_slice(), b")"].concat();
+    (function, kind)
+}
+
+/// An ML or MR code with these digits for n and m.
+fn mask_with(rng: &mut Rng, digits: &str) -> Vec<u8> {
+    let mut code = vec![b'M', *rng.pick(b"LR")];
+    code.extend_from_slice(digits.as_bytes());
     if rng.one_in(4) {
         code.push(b'Z');
     }
@@ -285,6 +309,7 @@ fn field(rng: &mut Rng) -> Vec<u8> {
             .to_string(),
         1 => num(rng),
         2..=5 => rng.between(1, 99).to_string(),
+        6 | 7 => rng.between(1, 5).to_string(),
         _ => rng.between(6, 24).to_string(),
     };
     [b"(", &[fill] as &[u8], width.as_bytes(), b")"].concat()

@@ -9,6 +9,8 @@ pub enum Kind {
     Any,
     /// Arithmetic and masks.
     Number,
+    /// Masks that show multiples of this unit: numbers at and about a half of it.
+    Half(u64),
     /// A date code.
     Day,
     /// MY.
@@ -45,6 +47,7 @@ pub fn element(rng: &mut Rng, kind: &Kind) -> Vec<u8> {
     }
     match kind {
         Kind::Number | Kind::Any => number(rng),
+        Kind::Half(unit) => half(rng, *unit),
         Kind::Day => day(rng),
         Kind::Hex => hex(rng),
         Kind::Fields => separated(rng),
@@ -124,6 +127,20 @@ pub fn number(rng: &mut Rng) -> Vec<u8> {
         _ => 0,
     };
     format!("{sign}{}{size}", "0".repeat(zeros)).into_bytes()
+}
+
+/// A number at a half of this unit or one beside it: of 0, of a number of nines,
+/// which a half takes to a new digit, or of any.
+fn half(rng: &mut Rng, unit: u64) -> Vec<u8> {
+    let most = 999_999_999_999_999 / unit;
+    let kept = match rng.below(3) {
+        0 => 0,
+        1 => most / 10_u64.pow(rng.below(15) as u32),
+        _ => rng.below(most),
+    };
+    let size = kept * unit + unit / 2 + rng.below(3) - 1;
+    let sign = *rng.pick(&["", "-", "-", "+"]);
+    format!("{sign}{size}").into_bytes()
 }
 
 /// A day in or about the calendar.

@@ -77,6 +77,7 @@ pub fn convert(rng: &mut Rng, buffers: &mut Buffers) -> ConvertCall {
     let (record, code, at) = match rng.below(2_000) {
         0 => swelling(rng),
         1..=15 => at_an_end(rng),
+        16..=40 => at_a_half(rng),
         _ => suited(rng),
     };
     // Long records with many elements are kept from running for minutes.
@@ -146,6 +147,14 @@ fn at_an_end(rng: &mut Rng) -> (Vec<u8>, Vec<u8>, Address) {
         _ => two(sign * (end / factor), factor, '*'),
     };
     let record = [b"K1\xfe", number.to_string().as_bytes()].concat();
+    (record, code, Address::new(1, 0, 0))
+}
+
+/// One number at a half that a mask rounds, or one beside it.
+fn at_a_half(rng: &mut Rng) -> (Vec<u8>, Vec<u8>, Address) {
+    let (code, kind) = codes::rounding_mask(rng);
+    let number = elements::element(rng, &kind);
+    let record = [b"K1\xfe", number.as_slice()].concat();
     (record, code, Address::new(1, 0, 0))
 }
 
