@@ -1,32 +1,15 @@
 -- Rounding and scaling within the range. Assumes nothing.
-use mathlib.Core.Path.{_≡_, refl, sym, ap, _∙_}
-use mathlib.Core.Bool.{Bool, true, false}
-use Prim.Native.Nat.{ℕ, _+_, _-_, _*_, _/_, _%_, _^_, _≤_, _<_}
-use native.Mathlib.Nat.{mul-one, mod-one, div-one, div-add-mod, mul-le-mul-right, pow-le-pow-right, le-div-iff-mul-le, div-lt-iff-lt-mul}
+use mathlib.Core.Path.{_≡_, sym, ap, _∙_}
+use Prim.Native.Nat.{ℕ, _-_, _*_, _/_, _^_, _≤_, _<_}
+use native.Mathlib.Nat.{mul-one, mod-one, div-one, pow-le-pow-right, le-div-iff-mul-le, div-lt-iff-lt-mul}
 use native.Mathlib.Omega.{arith}
-use lib.Dec.{leb}
-use borrow.Author.Tests.{le-leb, lt-leb, leb-true}
-use Rattle.paper.specs.Bytes.{if_then_else_}
+use borrow.Author.Tests.{le-leb, lt-leb}
 use Rattle.paper.specs.Sizes.{number-most}
 use Rattle.paper.specs.Masks.{rounded, scaled-size}
 use Rattle.paper.proofs.Numerals.{pow-pos}
+use Rattle.paper.proofs.Symmetry.{rounded-below}
 use Rattle.masks.specs.declared.scaling.Scaling.{Scaling}
 use Rattle.masks.specs.Scaling.{scaling-of}
-
--- rounding never makes a size larger: a half that is dropped is at least one
-pub rounded-below : (size over : ℕ) → 0 < over → rounded size over ≤ size
-unfolding rounded
-rounded-below size over some = go (leb over (2 * (size % over))) refl
-  where
-    parts : over * (size / over) + size % over ≡ size
-    parts = div-add-mod size over
-
-    least : size / over ≤ over * (size / over)
-    least = omega (arith, mul-le-mul-right (size / over) some)
-
-    go : (t : Bool) → leb over (2 * (size % over)) ≡ t → (if t then size / over + 1 else size / over) ≤ size
-    go true e = omega (arith, leb-true over (2 * (size % over)) e, parts, least)
-    go false e = omega (arith, parts, least)
 
 -- nothing is dropped over one
 rounded-one : (size : ℕ) → rounded size 1 ≡ size

@@ -3,33 +3,35 @@
 use Prim.Native.Nat.{ℕ, _+_, _≤_, _<_}
 use mathlib.Core.Path.{_≡_, refl, sym, ap, _∙_}
 use mathlib.Core.Bool.{Bool, true, false}
+use mathlib.Core.Logic.{⊎-elim}
 use mathlib.Core.List.{List, [], _∷_, _++_}
 use native.Mathlib.Omega.{arith}
 use lib.Dec.{leb}
 use lib.ListN.{length}
 use borrow.Author.Tests.{le-leb, leb-true}
 use Rattle.paper.specs.Bytes.{Bytes, if_then_else_}
-use Rattle.paper.specs.Sizes.{entry-most, scratch-least}
+use Rattle.paper.specs.Sizes.{entry-most}
 use Rattle.paper.specs.Refusals.{Res, given, refused, _>>=_, _>>_, refuse_unless_, refusal-of, answer-of}
-use Rattle.paper.specs.Refusals.{short-scratch, over-long-entry, over-budget, short-output}
+use Rattle.paper.specs.Refusals.{over-long-entry, over-budget, short-output}
 use Rattle.paper.specs.Codes.{Conversion, Code}
-use Rattle.paper.specs.Checking.{conversion-kind, check, checked-codes}
+use Rattle.paper.specs.Checking.{conversion-kind, accepted, check}
 use Rattle.paper.specs.Steps.{Run, done, stop, step, onward, stepped, conversion-gives, price, limited, conversion-step, code-run, codes-run}
 use Rattle.paper.specs.Steps.{element-run}
-use Rattle.paper.specs.Converting.{Ending, Element, elements, elements-run, result, within-budget, lawful-place, lawful-code, ready, run, fitted}
+use Rattle.paper.specs.Converting.{Ending, Element, elements, elements-run, count, result, within-budget, unbudgeted, ready, run, fitted}
 use Rattle.paper.specs.Converting.{finished, carried-out, convert}
-use Rattle.paper.proofs.Truths.{chosen}
+use Rattle.paper.proofs.Truths.{chosen, ltb-or}
+use Rattle.paper.proofs.Predicates.{held-by}
+use Rattle.paper.proofs.Budget.{budget-holds, budget-short}
+use Rattle.paper.proofs.Ceiling.{ready-accepted}
 use Rattle.paper.proofs.Limits.{given-within, refused-before}
-use Rattle.paper.proofs.Refusing.{never-given, let-through, never-held}
+use Rattle.paper.proofs.Refusing.{never-given, never-held, passed}
 
 -- an answer that came under a budget comes without
-ended : {A : Type 0} (r : Run A) (budget so-far : ℕ) {a : A} → within-budget budget so-far r .answer ≡ given a → result r ≡ given a
-unfolding within-budget result
-ended (done a) budget so-far e = e
-ended (stop n) budget so-far e = e
-ended (step cost r) budget so-far {a} e =
-    chosen (λ (o : Ending _). o .answer ≡ given a → result r ≡ given a) (leb (so-far + cost) budget) (λ _ h. ended r budget (so-far + cost) h)
-    (λ _ h. never-given h) e
+ended : {A : Type 0} (r : Run A) (budget : ℕ) {a : A} → within-budget budget 0 r .answer ≡ given a → result r ≡ given a
+unfolding unbudgeted
+ended r budget e =
+    ⊎-elim (λ short. never-given (sym (budget-short r budget short .0) ∙ e))
+    (λ enough. ap (λ (o : Ending _). o .answer) (sym (budget-holds r budget enough)) ∙ e) (ltb-or budget (count r))
 
 -- an answer of a run that goes on came from an answer of its first part
 ended-onward : {A B : Type 0} (r : Run A) (k : A → Run B) {b : B} → result (onward r k) ≡ given b
@@ -89,23 +91,11 @@ module _ (item : Bytes) (c : Conversion) (most : ℕ) where
 fitted-given : (room : ℕ) (x : Res Bytes) {bs : Bytes} → fitted room x ≡ given bs → x ≡ given bs
 unfolding fitted
 fitted-given room (refused n) h = h
-fitted-given room (given bs) h = let-through short-output (leb (length bs) room) h
-
--- what is ready to run is what the check accepted
-ready-coded : (item string : Bytes) (a v s scratch : ℕ) {cs : List Code} → ready item string a v s scratch ≡ given cs
-    → checked-codes (check string) ≡ given cs
-unfolding ready lawful-code
-ready-coded item string a v s scratch {cs} = go (lawful-place item a v s) (checked-codes (check string))
-  where
-    go : (x : Res (Unit {0})) (y : Res (List Code)) → (x >> (y >>= λ ds. (refuse short-scratch unless leb scratch-least scratch) >> given ds)) ≡ given cs
-        → y ≡ given cs
-    go (given u) (given ds) h = let-through short-scratch (leb scratch-least scratch) h
-    go (given u) (refused n) h = never-given h
-    go (refused n) y h = never-given h
+fitted-given room (given bs) h = passed ((refuse short-output unless leb (length bs) room) ∷ []) (given bs) h .1
 
 module _ (item string : Bytes) (a v s budget room scratch : ℕ) (c : Conversion) where
   -- A string of one code, where converting answers.
-  pub converted-pieces : {bs : Bytes} → checked-codes (check string) ≡ given (Code.single c ∷ [])
+  pub converted-pieces : {bs : Bytes} → check string ≡ accepted (Code.single c ∷ [])
       → convert item string a v s budget room scratch .answer ≡ given bs → Pieces c (elements item a v s) bs
   unfolding convert carried-out finished run
   converted-pieces {bs} coded = go (ready item string a v s scratch) refl
@@ -114,9 +104,9 @@ module _ (item string : Bytes) (a v s budget room scratch : ℕ) (c : Conversion
           → Pieces c (elements item a v s) bs
       go (refused n) e h = never-given h
       go (given cs) e h =
-          let same : given cs ≡ given (Code.single c ∷ []) = sym (ready-coded item string a v s scratch e) ∙ coded in
+          let same : accepted cs ≡ accepted (Code.single c ∷ []) = sym (held-by (ready-accepted item string a v s scratch) e) ∙ coded in
           let codes : cs ≡ Code.single c ∷ [] = cc in
-          let ran : result (run item a v s cs) ≡ given bs = ended (run item a v s cs) budget 0 (fitted-given room _ h) in
+          let ran : result (run item a v s cs) ≡ given bs = ended (run item a v s cs) budget (fitted-given room _ h) in
           elements-given item c entry-most (elements item a v s) (rw codes at ran)
 
   -- One element within the limit, where the run begins: the code's own refusals are the call's, and a number from 10 to 14 is the code's own.

@@ -2,17 +2,17 @@
 -- Assumes nothing.
 use Prim.Native.Nat.{ℕ, _≤_, _<_}
 use mathlib.Core.Path.{_≡_, refl, ap}
-use mathlib.Core.List.{_++_}
+use mathlib.Core.List.{[], _∷_, _++_}
 use native.Mathlib.Omega.{arith}
 use lib.Dec.{leb}
 use lib.ListN.{length, drop}
 use borrow.Author.Tests.{le-leb, lt-leb}
 use Rattle.paper.specs.Bytes.{Bytes}
 use Rattle.paper.specs.Sizes.{entry-most}
-use Rattle.paper.specs.Refusals.{Res, given, refused, over-long-entry}
+use Rattle.paper.specs.Refusals.{Res, given, refused, refuse_unless_, over-long-entry}
 use Rattle.paper.specs.Answers.{given-of, written}
 use Rattle.paper.specs.Steps.{limited}
-use Rattle.paper.proofs.Refusing.{let-through, never-held}
+use Rattle.paper.proofs.Refusing.{passed, never-held}
 use Rattle.paper.specs.declared.Given.{Given}
 use Rattle.paper.specs.declared.Given.the-variants.{Length, Refused}
 
@@ -39,7 +39,7 @@ module _ (most : ℕ) {r : Res Bytes} where
 module _ (most : ℕ) where
   pub given-within : (r : Res Bytes) {bs : Bytes} → limited most r ≡ given bs → r ≡ given bs
   unfolding limited
-  given-within (given bs) h = let-through over-long-entry (leb (length bs) most) h
+  given-within (given bs) h = passed ((refuse over-long-entry unless leb (length bs) most) ∷ []) (given bs) h .1
   given-within (refused n) h = h
 
   pub refused-before : (n : ℕ) → over-long-entry < n → (r : Res Bytes) → limited most r ≡ refused n → r ≡ refused n

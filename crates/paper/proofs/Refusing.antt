@@ -13,11 +13,7 @@ use Rattle.paper.proofs.Predicates.{All, none-of, and-all}
 pub never-given : {A G : Type 0} {n : ℕ} {a : A} → refused n ≡ given a → G
 never-given e = absurd (let z : _≡_ {A = ℕ} 0 1 = cc in omega arith)
 
--- an answer that a test let through, and a refusal that is not the test's
-pub let-through : {A : Type 0} (n : ℕ) (t : Bool) {x y : A} → ((refuse n unless t) >> given x) ≡ given y → given x ≡ given y
-let-through n true h = h
-let-through n false h = never-given h
-
+-- what a test before an answer does not refuse with
 pub never-held : {A G : Type 0} (n m : ℕ) (t : Bool) (x : A) → n ≢ m → ((refuse n unless t) >> given x) ≡ refused m → G
 never-held n m true x d h = never-given (sym h)
 never-held n m false x d h = absurd (d (ap refusal-of h))

@@ -5,11 +5,11 @@ use mathlib.Core.Path.{_≡_, refl, sym, ap, _∙_}
 use mathlib.Core.Bool.{Bool, true, false, not, _&&_, _||_}
 use mathlib.Core.List.{List, [], _∷_, _++_, append-nil}
 use mathlib.Core.Option.{Option, none, some}
-use native.Mathlib.Nat.{zero-mul, sub-zero, zero-mod, zero-div, div-add-mod, mod-lt, mul-add, mul-one}
+use native.Mathlib.Nat.{zero-mul, sub-zero, div-add-mod, mod-lt, mul-add, mul-one, mul-le-mul-right}
 use native.Mathlib.Omega.{arith}
 use lib.Dec.{leb, ltb, eqb}
 use lib.ListN.{length, replicate}
-use borrow.Author.Tests.{lt-leb, leb-true, leb-false, ltb-false}
+use borrow.Author.Tests.{leb-true, leb-false, ltb-false}
 use Rattle.paper.specs.Bytes.{Bytes, if_then_else_, ch, bytes, is-digit, only}
 use Rattle.paper.specs.Sizes.{number-most}
 use Rattle.paper.specs.Refusals.{Res, given, refused, _>>=_, _>>_, refuse_unless_, out-of-range, wider-than-mask}
@@ -42,15 +42,23 @@ rounded-nearest size d pos = go (leb d (2 * (size % d))) refl
         let less = leb-false d (2 * (size % d)) e in
         (omega (arith, div-add-mod size d), omega (arith, less, div-add-mod size d))
 
-rounded-zero : (d : ℕ) → 0 < d → rounded 0 d ≡ 0
+-- rounding never makes a size larger: a half that is dropped is at least one
+pub rounded-below : (size d : ℕ) → 0 < d → rounded size d ≤ size
 unfolding rounded
-rounded-zero d pos = rw (zero-mod d, zero-div d, lt-leb d 0 pos)
+rounded-below size d pos = go (leb d (2 * (size % d))) refl
+  where
+    least : size / d ≤ d * (size / d)
+    least = omega (arith, mul-le-mul-right (size / d) pos)
+
+    go : (t : Bool) → leb d (2 * (size % d)) ≡ t → (if t then size / d + 1 else size / d) ≤ size
+    go true e = omega (arith, leb-true d (2 * (size % d)) e, div-add-mod size d, least)
+    go false e = omega (arith, div-add-mod size d, least)
 
 -- ---- the scaled value
 
 scaled-zero : (n m : ℕ) → scaled-size n m 0 ≡ 0
 unfolding scaled-size
-scaled-zero n m = rw (zero-mul (10 ^ (n - m))) (rounded-zero (10 ^ (m - n)) (pow-pos (m - n)))
+scaled-zero n m = rw (zero-mul (10 ^ (n - m))) (omega (arith, rounded-below 0 (10 ^ (m - n)) (pow-pos (m - n))))
 
 -- zero is scaled to zero, which has no sign
 no-sign : (n m size : ℕ) → ltb 0 size ≡ false → ltb 0 (scaled-size n m size) ≡ false
@@ -127,27 +135,30 @@ point-figures zero size = none-of
 point-figures (suc n) size = and-all refl (digits-figures (suc n) size)
 
 -- "`$`", signs and suffixes have none of them
-unmarked : (t : Bool) (x y : Bytes) → figures x ≡ [] → figures y ≡ [] → figures (if t then x else y) ≡ []
-unmarked true x y p q = p
-unmarked false x y p q = q
+abbrev Plain : Bytes → Type 0
+Plain text = figures text ≡ []
 
-before-unmarked : (credits : Credit) (negative : Bool) → figures (before-digits credits negative) ≡ []
+before-plain : (credits : Credit) (negative : Bool) → Plain (before-digits credits negative)
 unfolding before-digits bytes only is-digit
-before-unmarked Credit.no-credit t = unmarked t (bytes "-") [] refl refl
-before-unmarked Credit.debit t = unmarked t (bytes "-") [] refl refl
-before-unmarked Credit.enclosed t = unmarked t (bytes "<") [] refl refl
-before-unmarked Credit.credit t = refl
-before-unmarked Credit.trailing t = refl
-before-unmarked Credit.suppressed t = refl
+before-plain Credit.no-credit t = chosen Plain t (λ _. refl) (λ _. refl)
+before-plain Credit.debit t = chosen Plain t (λ _. refl) (λ _. refl)
+before-plain Credit.enclosed t = chosen Plain t (λ _. refl) (λ _. refl)
+before-plain Credit.credit t = refl
+before-plain Credit.trailing t = refl
+before-plain Credit.suppressed t = refl
 
-after-unmarked : (credits : Credit) (y : Number) → figures (after-digits credits y) ≡ []
+after-plain : (credits : Credit) (y : Number) → Plain (after-digits credits y)
 unfolding after-digits bytes only is-digit
-after-unmarked Credit.no-credit y = refl
-after-unmarked Credit.credit y = unmarked (y .negative) (bytes "CR") (bytes "  ") refl refl
-after-unmarked Credit.debit y = unmarked (y .negative || eqb (y .size) 0) (bytes "  ") (bytes "DB") refl refl
-after-unmarked Credit.enclosed y = unmarked (y .negative) (bytes ">") (bytes " ") refl refl
-after-unmarked Credit.trailing y = unmarked (y .negative) (bytes "-") (bytes " ") refl refl
-after-unmarked Credit.suppressed y = refl
+after-plain Credit.no-credit y = refl
+after-plain Credit.credit y = chosen Plain (y .negative) (λ _. refl) (λ _. refl)
+after-plain Credit.debit y = chosen Plain (y .negative || eqb (y .size) 0) (λ _. refl) (λ _. refl)
+after-plain Credit.enclosed y = chosen Plain (y .negative) (λ _. refl) (λ _. refl)
+after-plain Credit.trailing y = chosen Plain (y .negative) (λ _. refl) (λ _. refl)
+after-plain Credit.suppressed y = refl
+
+dollar-plain : (dollar : Bool) → Plain (if dollar then bytes "$" else [])
+unfolding bytes only is-digit
+dollar-plain dollar = chosen Plain dollar (λ _. refl) (λ _. refl)
 
 -- The digits, point and commas of what is shown of a scaled value are those of its size.
 pub figures-shown : (k : Mask) (y : Number) → figures (masked-text k y) ≡ digits-text k (y .size)
@@ -162,9 +173,9 @@ figures-shown k y =
     ∙ rw (
       only-append is-figure (dollar ++ sign) (whole ++ point),
       only-append is-figure dollar sign,
-      before-unmarked (k .credits) (y .negative),
-      after-unmarked (k .credits) y,
-      unmarked (k .dollar) (bytes "$") [] refl refl,
+      before-plain (k .credits) (y .negative),
+      after-plain (k .credits) y,
+      dollar-plain (k .dollar),
       all,
     ) (append-nil (whole ++ point))
 

@@ -10,7 +10,7 @@ use Rattle.paper.specs.Bytes.{Bytes}
 use Rattle.paper.specs.Sizes.{entry-most}
 use Rattle.paper.specs.Refusals.{given, refused, refusal-of, answer-of, out-of-range}
 use Rattle.paper.specs.Codes.{Mask, Conversion, Code}
-use Rattle.paper.specs.Checking.{check, checked-codes}
+use Rattle.paper.specs.Checking.{accepted, check}
 use Rattle.paper.specs.Masks.{mask-gives}
 use Rattle.paper.specs.Steps.{conversion-gives}
 use Rattle.paper.specs.Converting.{Element, Outcome, elements, ready, convert, output-after}
@@ -58,7 +58,7 @@ module _ (κs : Lfts 5) (args : _) (r : _) (exits : _) (post : convert-call.Post
 
   -- its string is one ML or MR code, with this mask
   abbrev pub Masked : Mask → Type 0
-  Masked k = checked-codes (check code) ≡ given (Code.single (Conversion.mask k) ∷ [])
+  Masked k = check code ≡ accepted (Code.single (Conversion.mask k) ∷ [])
 
   -- and nothing refuses it before the run
   abbrev pub Begins : Mask → Type 0

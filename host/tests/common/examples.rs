@@ -144,7 +144,7 @@ fn all_given(implementation: &Implementation, table: &[Given]) {
 
 /// What single codes give, or with which number they refuse.
 fn single_codes(implementation: &Implementation) {
-    const TABLE: [Given; 58] = [
+    const TABLE: [Given; 57] = [
         // From the paper.
         ("F;'7';'2';-", "", 0, "5"),
         ("F;'-7';'2';/", "", 0, "-3"),
@@ -188,7 +188,6 @@ fn single_codes(implementation: &Implementation) {
         ("MR20", "5", 0, "5.00"),
         ("MR,", "-1234567", 0, "-1,234,567"),
         ("MR9", "1234567890123", 0, "1234.567890123"),
-        ("MR90", "1000000", 10, ""),
         ("MR", "999999999999999", 0, "999999999999999"),
         ("MR(#3)", "", 0, ""),
         ("MR", "1.5", 12, ""),
