@@ -1,21 +1,23 @@
--- Numeric form by a scan that holds a size over the limit just over it, against the definition. Assumes nothing.
+-- Numeric form by scans, one that holds a size over the limit just over it and two over the blanks round it, against the definition. Assumes nothing.
 use mathlib.Core.Path.{_≡_, refl, sym, _∙_}
-use mathlib.Core.Bool.{Bool, true, false}
+use mathlib.Core.Bool.{Bool, true, false, not, _&&_}
 use mathlib.Core.List.{[], _∷_}
 use mathlib.Core.Logic.{_⊎_, inl, inr, ⊎-elim}
 use mathlib.Core.Option.{none, some}
-use Prim.Native.Nat.{ℕ, _+_, _*_, _≤_, _<_, min}
+use Prim.Native.Nat.{ℕ, zero, suc, _+_, _-_, _*_, _≤_, _<_, min}
 use native.Mathlib.Nat.{not-suc-le-zero, le-of-eq}
 use native.Mathlib.Numerals.{add-one}
 use native.Mathlib.Omega.{arith}
-use lib.ListN.{length, getD, drop, drop-of-length-le}
+use lib.Dec.{eqb}
+use lib.ListN.{length, getD, take, drop, drop-of-length-le}
 use lib.Seq.{drop-cons}
-use borrow.Author.Tests.{le-leb, lt-leb, eq-eqb, ne-eqb}
+use borrow.Author.Tests.{le-leb, lt-leb, ne-eqb, eqb-true, eqb-false, not-true}
 use Rattle.paper.specs.Bytes.{Bytes, if_then_else_, is-digit, digit-value}
 use Rattle.paper.specs.Sizes.{number-most}
 use Rattle.paper.specs.Refusals.{given, refused}
-use Rattle.paper.specs.Numbers.{Number as Whole, signed, value, digits-alone, numeric, ranged}
-use Rattle.paper.proofs.Truths.{ltb-or}
+use Rattle.paper.specs.Numbers.{Number as Whole, signed, value, digits-alone, sign-and-digits, after-blanks, before-blanks, within-blanks, ranged}
+use Rattle.paper.proofs.Truths.{both, ltb-or}
+use Rattle.paper.proofs.Blanks.{blank-after, other-after, last-byte, none-around}
 use Rattle.numbers.specs.Forms.{in-range}
 use Rattle.numbers.specs.Scans.{value-form}
 
@@ -58,26 +60,66 @@ unfolding value-form value
 at-end negative s n i h = rw (drop-of-length-le s h)
 
 -- "an optional `+` or `-`, then one or more digits"
-pub no-bytes : (s : Bytes) → length s ≡ 0 → none ≡ in-range (numeric s)
-unfolding numeric
+pub no-bytes : (s : Bytes) → length s ≡ 0 → none ≡ in-range (sign-and-digits s)
+unfolding sign-and-digits
 no-bytes [] h = refl
 no-bytes (b ∷ bs) h = absurd (omega arith)
 
-pub after-minus : (s : Bytes) → 0 < length s → getD s 0 0 ≡ 45 → in-range (digits-alone true (drop 1 s)) ≡ in-range (numeric s)
-unfolding numeric
-after-minus [] h e = absurd (not-suc-le-zero h)
-after-minus (b ∷ bs) h e = rw (eq-eqb b 45 e)
+pub after-sign : (s : Bytes) → (getD s 0 0 ≡ 43) ⊎ (getD s 0 0 ≡ 45)
+    → in-range (digits-alone (eqb (getD s 0 0) 45) (drop 1 s)) ≡ in-range (sign-and-digits s)
+unfolding sign-and-digits
+after-sign [] e = absurd (⊎-elim (λ p. omega arith) (λ p. omega arith) e)
+after-sign (b ∷ bs) (inl e) = rw e
+after-sign (b ∷ bs) (inr e) = rw e
 
-pub after-plus : (s : Bytes) → 0 < length s → getD s 0 0 ≡ 43 → in-range (digits-alone false (drop 1 s)) ≡ in-range (numeric s)
-unfolding numeric
-after-plus [] h e = absurd (not-suc-le-zero h)
-after-plus (b ∷ bs) h e = rw e
+pub no-sign : (s : Bytes) → 48 ≤ getD s 0 0 → in-range (digits-alone (eqb (getD s 0 0) 45) (drop 0 s)) ≡ in-range (sign-and-digits s)
+unfolding sign-and-digits
+no-sign [] h = absurd (omega arith)
+no-sign (b ∷ bs) h = rw (ne-eqb b 45 (λ p. omega arith), ne-eqb b 43 (λ p. omega arith))
 
-pub no-sign : (s : Bytes) → 0 < length s → (getD s 0 0 ≡ 45 → ⊥) → (getD s 0 0 ≡ 43 → ⊥)
-    → in-range (digits-alone false (drop 0 s)) ≡ in-range (numeric s)
-unfolding numeric
-no-sign [] h p q = absurd (not-suc-le-zero h)
-no-sign (b ∷ bs) h p q = rw (ne-eqb b 45 p, ne-eqb b 43 q)
+pub no-digit : (s : Bytes) → getD s 0 0 < 48 → ((getD s 0 0 ≡ 43) ⊎ (getD s 0 0 ≡ 45) → ⊥) → none ≡ in-range (sign-and-digits s)
+unfolding sign-and-digits value is-digit
+no-digit [] h e = refl
+no-digit (b ∷ bs) h e = rw (ne-eqb b 45 (λ p. e (inr p)), ne-eqb b 43 (λ p. e (inl p)), lt-leb 48 b h)
+
+-- nothing at all, and a text with no blank at either end
+pub nothing-within : (s : Bytes) → length s ≡ 0 → s ≡ within-blanks s
+unfolding within-blanks before-blanks after-blanks
+nothing-within [] h = refl
+nothing-within (b ∷ bs) h = absurd (omega arith)
+
+pub nothing-around : (s : Bytes) → not (eqb (getD s 0 0) 32) && not (eqb (getD s (length s - 1) 0) 32) ≡ true → s ≡ within-blanks s
+nothing-around s h =
+    let first = getD s 0 0 in
+    let last = getD s (length s - 1) 0 in
+    let ends = both (not (eqb first 32)) (not (eqb last 32)) h in
+    sym (none-around s (eqb-false first 32 (not-true (eqb first 32) (ends .0))) (eqb-false last 32 (not-true (eqb last 32) (ends .1))))
+
+-- the blanks before: one more is passed, another byte ends them, and none is left
+pub blank-goes : (s : Bytes) (i : ℕ) → i < length s → eqb (getD s i 0) 32 ≡ true → after-blanks (drop (i + 1) s) ≡ after-blanks (drop i s)
+unfolding after-blanks
+blank-goes s i h e = rw (add-one i, drop-cons s i 0 h, e)
+
+pub front-found : (s : Bytes) (i : ℕ) → i < length s → eqb (getD s i 0) 32 ≡ false → drop i s ≡ after-blanks (drop i s)
+unfolding after-blanks
+front-found s i h e = rw (drop-cons s i 0 h, e)
+
+pub front-end : (s : Bytes) (i : ℕ) → length s ≤ i → drop i s ≡ after-blanks (drop i s)
+unfolding after-blanks
+front-end s i h = rw (drop-of-length-le s h)
+
+-- the blanks after: one more is left out, another byte ends them, and none is left
+module _ (s : Bytes) (end : ℕ) (some-left : 0 < end) (inside : end ≤ length s) where
+  pub blank-left : eqb (getD s (end - 1) 0) 32 ≡ true → before-blanks (take (end - 1) s) ≡ before-blanks (take end s)
+  blank-left e = rw (last-byte s end some-left inside, eqb-true (getD s (end - 1) 0) 32 e) (sym (blank-after (take (end - 1) s)))
+
+  pub back-found : eqb (getD s (end - 1) 0) 32 ≡ false → take end s ≡ before-blanks (take end s)
+  back-found e = rw (last-byte s end some-left inside) (sym (other-after (take (end - 1) s) (getD s (end - 1) 0) (eqb-false (getD s (end - 1) 0) 32 e)))
+
+pub back-end : (s : Bytes) (end : ℕ) → end ≤ 0 → take end s ≡ before-blanks (take end s)
+unfolding before-blanks after-blanks
+back-end s zero h = refl
+back-end s (suc i) h = absurd (not-suc-le-zero h)
 
 -- what stands from an end on, and from before it
 pub none-from : (negative : Bool) (s : Bytes) (i : ℕ) → i ≡ length s → none ≡ in-range (digits-alone negative (drop i s))

@@ -8,7 +8,7 @@ ghost use Prim.Native.Nat.{_+_, _*_, _≤_, min};
 ghost use lib.ListN.{length, drop};
 ghost use Rattle.paper.specs.Bytes.{digit-value};
 ghost use Rattle.paper.specs.Sizes.{number-most};
-ghost use Rattle.paper.specs.Numbers.{value, digits-alone, numeric, ranged};
+ghost use Rattle.paper.specs.Numbers.{value, digits-alone, sign-and-digits, after-blanks, before-blanks, within-blanks, numeric, ranged};
 ghost use Rattle.numbers.specs.Forms.{whole, reckoned-gives, form-gives, in-range, convertible};
 ghost use Rattle.numbers.specs.Scans.{value-form};
 
@@ -22,18 +22,65 @@ pub fn convertible(e: &[u8]) -> Reckoned
     value
 }
 
-// "Numeric form: an optional `+` or `-`, then one or more digits."
+// "Numeric form should ignore blanks (byte 32) before and after, not between." (document 02, L3)
 pub(crate) fn form(s: &[u8]) -> Form
     ensures { λ r. ⌜ form-gives r ≡ in-range (numeric (now (s .entry))) ⌝ }
 {
+    sign_and_digits(within_blanks(s))
+}
+
+// The part of the entry that is read: what stands within its blanks. Most have none, and two looks tell it.
+fn within_blanks(s: &[u8]) -> &[u8]
+    ensures { λ r. ⌜ now r ≡ within-blanks (now (s .entry)) ⌝ }
+{
+    let end = s.len();
+    if end == 0 {
+        return s;
+    }
+    if (s[0] != b' ') & (s[end - 1] != b' ') {
+        return s;
+    }
+    before_blanks(after_blanks(s))
+}
+
+// What stands after the blanks that come first.
+fn after_blanks(s: &[u8]) -> &[u8]
+    ensures { λ r. ⌜ now r ≡ after-blanks (now (s .entry)) ⌝ }
+{
+    let mut i = 0;
+    while i < s.len() && s[i] == b' ' {
+        i += 1;
+    }
+    &s[i..]
+}
+
+// What stands before the blanks that come last.
+fn before_blanks(s: &[u8]) -> &[u8]
+    ensures { λ r. ⌜ now r ≡ before-blanks (now (s .entry)) ⌝ }
+{
+    let mut end = s.len();
+    while 0 < end && s[end - 1] == b' ' {
+        end -= 1;
+    }
+    &s[0..end]
+}
+
+// "an optional `+` or `-`, then one or more digits"
+fn sign_and_digits(s: &[u8]) -> Form
+    ensures { λ r. ⌜ form-gives r ≡ in-range (sign-and-digits (now (s .entry))) ⌝ }
+{
     if s.len() == 0 {
-        return Form::NotNumeric;
+        return Form::NotNumeric; // "blanks alone is still not numeric": nothing stands within them
     }
-    match s[0] {
-        b'-' => digits_alone(s, 1, true),
-        b'+' => digits_alone(s, 1, false),
-        _ => digits_alone(s, 0, false),
+    let first = s[0];
+    let mut at = 0;
+    if first < b'0' {
+        match first {
+            b'+' | b'-' => at = 1,
+            _ => return Form::NotNumeric,
+        }
     }
+    digits_alone(s, at, first == b'-')
 }
 
 // "then one or more digits": what stands from `at` on

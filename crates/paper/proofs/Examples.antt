@@ -10,7 +10,7 @@ use Rattle.paper.specs.Refusals.{refusal-of, answer-of}
 use Rattle.paper.specs.Bytes.{Bytes, if_then_else_, ch, bytes, is-digit, is-upper, is-lower, is-letter, digit-value, any, only, same-bytes}
 use Rattle.paper.specs.Sizes.{attribute-mark, value-mark, subvalue-mark, record-most, is-mark, is-outer-mark, is-inner-mark, entry-most, scratch-least}
 use Rattle.paper.specs.Records.{split, join, placed, pieces, nth, path, part-at, whole, id-of, place, lawful-id, lawful-record, lawful-address, reads}
-use Rattle.paper.specs.Numbers.{signed, natural, value, numeric, ranged, number, digits, trimmed, decimal, number-text, negated, plus, times, quotient, remainder, below, bytes-below, compared, holds, binary-gives, substring-gives}
+use Rattle.paper.specs.Numbers.{signed, natural, value, sign-and-digits, after-blanks, before-blanks, within-blanks, numeric, ranged, number, digits, trimmed, decimal, number-text, negated, plus, times, quotient, remainder, below, bytes-below, compared, holds, binary-gives, substring-gives}
 use Rattle.paper.specs.Grammar.{this, flag, choose, more-digits, numeral, num, quoted, closed-by, class-letter, count-test, literal-test, test, tests, pattern, pattern-list, pattern-code, separator, group-after, group-code, extract-from, extract-code, admit-from, length-after, length-code, except-code, character-code, scales, credit-letter, fill-byte, fill-width, fill-part, mask-code, is-separator, date-after, date-code, masking-code, conversion, repeats, attribute-elm, literal-elm, previous-elm, multiply-elm, bracket-elm, converting-elm, operator-elm, elm, parted, elms, function-code, code, read}
 use Rattle.paper.specs.Checking.{conversion-kind, shape, stacked, all-stacked, lawful, judged, judged-all, code-texts, check, together, step-counts, elms-counts, code-counts, codes-counts, report, codes-of, checked-codes}
 use Rattle.paper.specs.Patterns.{of-class, every, is-so-many, meets, some-cut, passes, some-passes, patterns-give, tests-in}
@@ -44,7 +44,7 @@ with-steps o = decimal (refusal-of (o .answer)) ++ ch " " ∷ decimal (o .steps)
 
 -- What it tells: the refusal, the steps where they are asked for, and the answer, marks drawn; a ceiling; a check's refusal.
 told : Example → Bytes
-unfolding bytes is-digit is-upper is-lower is-letter digit-value any only same-bytes is-mark is-outer-mark is-inner-mark entry-most scratch-least split join placed pieces nth path part-at whole id-of place lawful-id lawful-record lawful-address reads signed natural value numeric ranged number digits trimmed decimal number-text negated plus times quotient remainder below bytes-below compared holds binary-gives substring-gives this flag choose more-digits numeral num quoted closed-by class-letter count-test literal-test test tests pattern pattern-list pattern-code separator group-after group-code extract-from extract-code admit-from length-after length-code except-code character-code scales credit-letter fill-byte fill-width fill-part mask-code is-separator date-after date-code masking-code conversion repeats attribute-elm literal-elm previous-elm multiply-elm bracket-elm converting-elm operator-elm elm parted elms function-code code read of-class every is-so-many meets some-cut passes some-passes patterns-give tests-in conversion-kind shape stacked all-stacked lawful judged judged-all code-texts check together step-counts elms-counts code-counts codes-counts report checked-codes raised lowered titled hex-digit hexed hex-value unhexed plain-gives number-gives rounded scaled-size scaled grouped integer-text point-text digits-text before-digits after-digits masked-text laid-out blank-text number-masked mask-gives leap month-lengths month-names days-before-year year-of month-day date-of ranged-day year-text date-text date-gives onward stepped conversion-gives load-path operand bytes-in charged price step-ceiling top-entry limited elm-puts elm-step conversion-step elms-run code-run codes-run element-run subvalues values from-one elements-in elements-of elements elements-run within-budget lawful-place lawful-code ready run fitted finished carried-out convert elms-ceiling code-ceiling codes-ceiling ceiling-over ceiling counted-ceiling drawn printed marked
+unfolding bytes is-digit is-upper is-lower is-letter digit-value any only same-bytes is-mark is-outer-mark is-inner-mark entry-most scratch-least split join placed pieces nth path part-at whole id-of place lawful-id lawful-record lawful-address reads signed natural value sign-and-digits after-blanks before-blanks within-blanks numeric ranged number digits trimmed decimal number-text negated plus times quotient remainder below bytes-below compared holds binary-gives substring-gives this flag choose more-digits numeral num quoted closed-by class-letter count-test literal-test test tests pattern pattern-list pattern-code separator group-after group-code extract-from extract-code admit-from length-after length-code except-code character-code scales credit-letter fill-byte fill-width fill-part mask-code is-separator date-after date-code masking-code conversion repeats attribute-elm literal-elm previous-elm multiply-elm bracket-elm converting-elm operator-elm elm parted elms function-code code read of-class every is-so-many meets some-cut passes some-passes patterns-give tests-in conversion-kind shape stacked all-stacked lawful judged judged-all code-texts check together step-counts elms-counts code-counts codes-counts report checked-codes raised lowered titled hex-digit hexed hex-value unhexed plain-gives number-gives rounded scaled-size scaled grouped integer-text point-text digits-text before-digits after-digits masked-text laid-out blank-text number-masked mask-gives leap month-lengths month-names days-before-year year-of month-day date-of ranged-day year-text date-text date-gives onward stepped conversion-gives load-path operand bytes-in charged price step-ceiling top-entry limited elm-puts elm-step conversion-step elms-run code-run codes-run element-run subvalues values from-one elements-in elements-of elements elements-run within-budget lawful-place lawful-code ready run fitted finished carried-out convert elms-ceiling code-ceiling codes-ceiling ceiling-over ceiling counted-ceiling drawn printed marked
 told (converting item code a v s budget) =
     with-steps (convert (map marked (bytes item)) (bytes code) a v s budget record-most scratch-least)
 told (at-most item code a v s) =
@@ -159,3 +159,44 @@ patterns =
 pattern-examples : all-told patterns ≡ all-said patterns
 unfolding told patterns marked bytes
 pattern-examples = refl
+
+-- Document 02, L3, where it can be misread
+blanked : List Row
+blanked =
+    -- "before and after", and costs "count the bytes as they stand"
+    row (converting "K1^x" "F;' 42';'1';+" 1 0 0 program-budget) "0 13 43"
+    ∷ row (converting "K1^x" "F;'42 ';' 42';=" 1 0 0 program-budget) "0 16 1"
+    ∷ row (giving "F;' +5 ';'1';+" "") "0 6"
+    ∷ row (giving "F;'  -5';'1';+" "") "0 -4"
+    ∷ row (giving "L" " 42") "0 3"
+    -- "not between": the sign and the digits, the digits
+    ∷ row (giving "F;'- 5';'1';+" "") "0 1"
+    ∷ row (giving "F;'+ 5';'1';+" "") "0 1"
+    ∷ row (giving "F;'4 2';'1';+" "") "0 1"
+    -- "byte 32", and no other
+    ∷ row (giving "F;'\t5';'1';+" "") "0 1"
+    ∷ row (giving "D" "0\t") "12 "
+    -- "blanks alone" are "still not numeric": 0 in arithmetic, bytes in a relation, 12 in ML, MR and D
+    ∷ row (giving "F;'  ';'1';+" "") "0 1"
+    ∷ row (giving "F;'  ';'0';=" "") "0 0"
+    ∷ row (giving "ML2" " ") "12 "
+    ∷ row (giving "MR2" "  ") "12 "
+    ∷ row (giving "D" " ") "12 "
+    -- "wherever document 01 reads a number"
+    ∷ row (giving "F;'abcdef';' 2 ';' 3';[]" "") "0 bcd"
+    ∷ row (giving "F;' 9';'10';<" "") "0 1"
+    ∷ row (giving "MR2" " 1234 ") "0 12.34"
+    ∷ row (giving "MR2Z" " 0 ") "0 "
+    ∷ row (giving "D" " 60 ") "0 29 FEB 1968"
+    ∷ row (giving "F;' 1000000000000000 ';'1';+" "") "10 "
+    ∷ row (giving "F;' 1000000000000000 ';'x';=" "") "0 0"
+    -- where it reads none
+    ∷ row (giving "F;' 42';'';:" "") "0  42"
+    ∷ row (giving "MY" " 41") "12 "
+    ∷ row (giving "P(2N)" " 42") "0 "
+    ∷ row (checking "MR 2") "6"
+    ∷ []
+
+blank-examples : all-told blanked ≡ all-said blanked
+unfolding told blanked marked bytes
+blank-examples = refl

@@ -1,4 +1,5 @@
 pub mod Alone
+pub mod Blanks
 pub mod Budget
 pub mod Calendar
 pub mod Ceiling

@@ -4,18 +4,19 @@ use mathlib.Core.Bool.{Bool, true, false}
 use mathlib.Core.List.{[], _∷_, _++_}
 use mathlib.Core.Logic.{_⊎_, inl, inr, ⊎-elim}
 use mathlib.Core.Option.{none, some}
-use Prim.Native.Nat.{ℕ, zero, suc, _+_, _*_, _/_, _%_, _^_, _≤_, _<_}
+use Prim.Native.Nat.{ℕ, zero, suc, _+_, _-_, _*_, _/_, _%_, _^_, _≤_, _<_}
 use native.Mathlib.Nat.{zero-add, pow-suc, pow-succ', pow-le-pow-right, div-one, div-div-eq-div-mul, div-eq-of-lt, div-lt-iff-lt-mul, le-div-iff-mul-le}
-use native.Mathlib.Nat.{not-suc-le-zero, eq-or-lt-of-le, lt-of-lt-of-le}
+use native.Mathlib.Nat.{not-suc-le-zero, le-of-suc-le-suc, eq-or-lt-of-le, lt-of-lt-of-le}
 use native.Mathlib.Omega.{arith}
 use lib.Dec.{eqb}
-use lib.ListN.{length, length-append}
+use lib.ListN.{length, length-append, getD}
 use borrow.Author.Tests.{eqb-true, le-leb, ne-eqb}
 use Rattle.paper.specs.Bytes.{Bytes, if_then_else_, is-digit, digit-value}
 use Rattle.paper.specs.Sizes.{number-digits, number-most}
 use Rattle.paper.specs.Refusals.{given}
-use Rattle.paper.specs.Numbers.{Number, signed, natural, value, numeric, ranged, number, digits, trimmed, decimal, number-text}
+use Rattle.paper.specs.Numbers.{Number, signed, natural, value, sign-and-digits, numeric, ranged, number, digits, trimmed, decimal, number-text}
 use Rattle.paper.proofs.Truths.{chosen}
+use Rattle.paper.proofs.Blanks.{numeric-bare}
 
 -- a digit's byte
 pub digit-byte : (d : ℕ) → d < 10 → is-digit (48 + d) ≡ true
@@ -83,28 +84,40 @@ length-text x =
     let size = length-decimal (x .size) in
     chosen (λ l. (1 ≤ length l) × (length l ≤ number-digits + 1)) (x .negative) {x = 45 ∷ ds} {y = ds} (λ _. omega arith) (λ _. omega arith)
 
-first-digit : (m n d : ℕ) (ds : Bytes) → value m (d ∷ ds) ≡ some n → is-digit d ≡ true
+-- each byte is a digit where digits have a value
+digit-at : (m n : ℕ) (ds : Bytes) (i : ℕ) → i < length ds → value m ds ≡ some n → is-digit (getD ds i 0) ≡ true
 unfolding value
-first-digit m n d ds h = go (is-digit d) h
+digit-at m n [] i l h = absurd (not-suc-le-zero l)
+digit-at m n (d ∷ ds) i l h = go i l (λ j k e. digit-at (m * 10 + digit-value d) n ds j k e) (is-digit d) refl h
   where
-    go : (t : Bool) → if t then value (m * 10 + digit-value d) ds else none ≡ some n → t ≡ true
-    go true e = refl
-    go false e = cc
+    go : (i : ℕ) → i < suc (length ds)
+        → ((j : ℕ) → j < length ds → value (m * 10 + digit-value d) ds ≡ some n → is-digit (getD ds j 0) ≡ true)
+        → (t : Bool) → is-digit d ≡ t → if t then value (m * 10 + digit-value d) ds else none ≡ some n → is-digit (getD (d ∷ ds) i 0) ≡ true
+    go zero l onward true f e = f
+    go (suc j) l onward true f e = onward j (le-of-suc-le-suc l) e
+    go i l onward false f e = cc
 
 other-byte : (d b : ℕ) → is-digit d ≡ true → is-digit b ≡ false → d ≡ b → ⊥
 other-byte d b h t e = let z : true ≡ false = sym h ∙ ap is-digit e ∙ t in let n : _≡_ {A = ℕ} 0 1 = cc in omega arith
 
--- "an optional `+` or `-`, then one or more digits": digits alone, and digits after a minus
+-- "an optional `+` or `-`, then one or more digits": digits alone, and digits after a minus; no digit is a blank
 pub numeric-of-digits : (ds : Bytes) (n : ℕ) → 1 ≤ length ds → value 0 ds ≡ some n → numeric ds ≡ some (natural n)
-unfolding numeric natural signed is-digit
+unfolding sign-and-digits natural signed is-digit
 numeric-of-digits [] n l h = absurd (not-suc-le-zero l)
 numeric-of-digits (d ∷ ds) n l h =
-    rw (ne-eqb d 45 (other-byte d 45 (first-digit 0 n d ds h) refl), ne-eqb d 43 (other-byte d 43 (first-digit 0 n d ds h) refl), h) refl
+    let first = digit-at 0 n (d ∷ ds) 0 l h in
+    let end = suc (length ds) - 1 in
+    let last = digit-at 0 n (d ∷ ds) end (omega arith) h in
+    numeric-bare (d ∷ ds) (other-byte d 32 first refl) (other-byte (getD (d ∷ ds) end 0) 32 last refl)
+    ∙ rw (ne-eqb d 45 (other-byte d 45 first refl), ne-eqb d 43 (other-byte d 43 first refl), h) refl
 
 pub numeric-of-minus : (ds : Bytes) (n : ℕ) → 1 ≤ length ds → value 0 ds ≡ some n → numeric (45 ∷ ds) ≡ some (signed true n)
-unfolding numeric
+unfolding sign-and-digits is-digit
 numeric-of-minus [] n l h = absurd (not-suc-le-zero l)
-numeric-of-minus (d ∷ ds) n l h = rw h refl
+numeric-of-minus (d ∷ ds) n l h =
+    let end : suc (suc (length ds)) - 1 ≡ suc (length ds) = omega arith in
+    let last = digit-at 0 n (d ∷ ds) (length ds) (omega arith) h in
+    numeric-bare (45 ∷ d ∷ ds) (λ e. omega arith) (rw end (other-byte (getD (d ∷ ds) (length ds) 0) 32 last refl)) ∙ rw h refl
 
 pub numeric-of-text : (x : Number) → x .size ≤ number-most → x ≡ signed (x .negative) (x .size) → numeric (number-text x) ≡ some x
 unfolding number-text natural

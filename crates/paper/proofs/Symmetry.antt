@@ -19,6 +19,7 @@ use Rattle.paper.specs.Steps.{conversion-gives}
 use Rattle.paper.specs.Converting.{Element}
 use Rattle.paper.specs.Masks.{number-gives, rounded, scaled-size, scaled, grouped, integer-text, point-text, digits-text, before-digits, after-digits}
 use Rattle.paper.specs.Masks.{masked-text, padded, laid-out, blank-text, number-masked, mask-gives}
+use Rattle.paper.proofs.Blanks.{blanks-alone}
 use Rattle.paper.proofs.Alone.{Pieces, no-more, piece}
 use Rattle.paper.proofs.Refusing.{never-given, never-held}
 use Rattle.paper.proofs.Predicates.{Holds, holds, held-by, holds-then, holds-unless, All, none-of, and-all, all-append}
@@ -287,8 +288,8 @@ pub record Mirrored (k : Mask) (x : Number) (r r′ : Bytes) : Type 0 where
 module _ (k : Mask) where
   -- what ML or MR gives on an element with numeric form
   mask-number : (e : Bytes) (x : Number) → numeric e ≡ some x → mask-gives k e ≡ (ranged x >>= number-masked k)
-  unfolding mask-gives number-gives numeric
-  mask-number [] x h = absurd (let z : _≡_ {A = ℕ} 0 1 = cc in omega arith)
+  unfolding mask-gives number-gives
+  mask-number [] x h = absurd (let z : _≡_ {A = Option Number} none (some x) = sym (blanks-alone 0) ∙ h in let n : _≡_ {A = ℕ} 0 1 = cc in omega arith)
   mask-number (b ∷ bs) x h = rw h
 
   given-filled : (e : Bytes) (x : Number) → numeric e ≡ some x → Holds (Filled (k .left) (k .filled) (before-fill k x)) (mask-gives k e)

@@ -1,7 +1,7 @@
--- Document 01, "What each code gives": numeric form, range, decimal text, and the arithmetic and relations of F.
+-- Document 01, "What each code gives", and document 02, L3: numeric form, range, decimal text, and the arithmetic and relations of F.
 use Prim.Native.Nat.{ℕ, zero, suc, pred, _+_, _-_, _*_, _/_, _%_, _^_}
 use mathlib.Core.Bool.{Bool, true, false, not, _&&_}
-use mathlib.Core.List.{[], _∷_, _++_}
+use mathlib.Core.List.{[], _∷_, _++_, reverse}
 use mathlib.Core.Option.{Option, none, some}
 use lib.ListN.{take, drop}
 use lib.Dec.{leb, ltb, eqb}
@@ -34,12 +34,27 @@ abbrev pub digits-alone : Bool → Bytes → Option Number
 digits-alone negative [] = none
 digits-alone negative (b ∷ bs) = as-signed negative (value 0 (b ∷ bs))
 
--- "Numeric form: an optional `+` or `-`, then one or more digits": the one reader of numeric form
-unfoldable pub numeric : Bytes → Option Number
-numeric [] = none
-numeric (b ∷ bs) =
+-- Document 02, L3: "blanks (byte 32) before and after, not between": what stands after the first ones, before the last ones, within both
+unfoldable pub after-blanks : Bytes → Bytes
+after-blanks [] = []
+after-blanks (b ∷ bs) = if eqb b (ch " ") then after-blanks bs else b ∷ bs
+
+unfoldable pub before-blanks : Bytes → Bytes
+before-blanks bs = reverse (after-blanks (reverse bs))
+
+unfoldable pub within-blanks : Bytes → Bytes
+within-blanks bs = before-blanks (after-blanks bs)
+
+-- "an optional `+` or `-`, then one or more digits"
+unfoldable pub sign-and-digits : Bytes → Option Number
+sign-and-digits [] = none
+sign-and-digits (b ∷ bs) =
     if eqb b (ch "-") then digits-alone true bs
     else (if eqb b (ch "+") then digits-alone false bs else digits-alone false (b ∷ bs))
+
+-- "Numeric form should ignore blanks"; "blanks alone is still not numeric", since nothing stands within them: the one reader of numeric form
+unfoldable pub numeric : Bytes → Option Number
+numeric bs = sign-and-digits (within-blanks bs)
 
 -- "numbers from -999,999,999,999,999 to 999,999,999,999,999"
 unfoldable pub ranged : Number → Res Number
