@@ -120,7 +120,7 @@ impl Refusal {
                 "A division or a remainder by zero was asked for, and it has no result."
             }
             Refusal::NotConvertible => {
-                "The element is not of the kind that this code converts: a mask and a date code want a whole number, MY wants pairs of hex digits, and a typed date must stand in the calendar in the form its code prints."
+                "The element is not of the kind that this code converts: a mask and a date code want a whole number, with or without blanks round it, MY wants pairs of hex digits, and a typed date must stand in the calendar in the form its code prints."
             }
             Refusal::MarkProduced => {
                 "The hex digits stand for a byte 251 to 255: such a byte is a mark, and MY must not produce marks."

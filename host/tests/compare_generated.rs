@@ -145,6 +145,7 @@ fn convert_share(name: &'static str, call: u64, percent: u64) {
         }
         laws::pattern_code(&call, &PROVED, &mut both.proved);
         laws::mask_code(&call, &PROVED, &mut both.proved);
+        laws::blanks(&call, &PROVED, &mut both.proved);
     });
     coverage.require_of_convert();
 }

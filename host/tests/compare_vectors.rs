@@ -61,3 +61,9 @@ fn pattern_codes() {
 fn halves() {
     vectors::run("L2.tsv", &PROVED);
 }
+
+/// All calls, with blanks round numbers ignored.
+#[test]
+fn blanks() {
+    vectors::run("L3.tsv", &PROVED);
+}

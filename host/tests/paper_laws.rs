@@ -1,6 +1,6 @@
 //! The independent implementation by itself: the examples of the documents,
-//! and on generated calls what they promise of every call. These also show
-//! that the generator reaches everything.
+//! and on generated calls and inputs of the program what they promise of every
+//! one. These also show that the generator reaches everything.
 //!
 //! Needs no archive: runs on any processor. `SUNDEWFRILL_CASES` sets the number
 //! of calls, `SUNDEWFRILL_SEED` the seed.
@@ -13,8 +13,9 @@ use common::cases::cases;
 use common::generator::{self, Rng};
 use common::{examples, laws};
 use sundewfrill_host::outcome::Address;
+use sundewfrill_host::paper;
 
-/// How many calls a usual run has in all.
+/// How many calls and inputs of the program a usual run has in all.
 const CASES: u64 = 340_000;
 
 #[test]
@@ -55,7 +56,7 @@ fn replace() {
 
 #[test]
 fn check() {
-    let coverage = cases(CASES, "check", 3, 18, |rng, coverage| {
+    let coverage = cases(CASES, "check", 3, 17, |rng, coverage| {
         let call = generator::check(rng);
         let outcome = call.run(&PAPER);
         laws::check(&call, &outcome);
@@ -81,6 +82,7 @@ fn convert() {
         }
         laws::pattern_code(&call, &PAPER, &mut buffers);
         laws::mask_code(&call, &PAPER, &mut buffers);
+        laws::blanks(&call, &PAPER, &mut buffers);
     });
     coverage.require_of_convert();
 }
@@ -105,4 +107,16 @@ fn date() {
         coverage.date(&call, &outcome);
     });
     coverage.require_of_date();
+}
+
+#[test]
+fn program() {
+    let mut buffers = Buffers::default();
+    let coverage = cases(CASES, "program", 6, 1, |rng, coverage| {
+        let input = generator::program(rng, &mut buffers);
+        let written = paper::program(&input);
+        laws::program(&input, &written);
+        coverage.program(&input, &written);
+    });
+    coverage.require_of_program();
 }

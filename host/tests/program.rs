@@ -16,7 +16,7 @@ use common::buffers::Buffers;
 use common::coverage::Coverage;
 use common::generator::{self, Rng};
 use common::progress::{seed, Progress};
-use common::vectors;
+use common::{laws, vectors};
 use sundewfrill_host::paper;
 
 const COMMAND_VARIABLE: &str = "SUNDEWFRILL_PROGRAM";
@@ -64,26 +64,6 @@ fn compared(input: &[u8]) -> Vec<u8> {
     written
 }
 
-/// Three lines, now and then a damaged or a missing one.
-fn input(rng: &mut Rng, buffers: &mut Buffers) -> Vec<u8> {
-    let call = generator::convert(rng, buffers);
-    let mut address = format!("{},{},{}", call.at.a, call.at.v, call.at.s).into_bytes();
-    if rng.one_in(10) {
-        let byte = *rng.pick(b",0 9-\r");
-        rng.insert(&mut address, byte);
-    }
-    let mut lines = [&call.code, &address, &call.record]
-        .map(Vec::as_slice)
-        .join(&b'\n');
-    match rng.below(8) {
-        0 => lines.truncate(rng.below(lines.len() as u64 + 1) as usize),
-        1..=3 => lines.push(b'\n'),
-        4 => lines.extend_from_slice(b"\nmore\n"),
-        _ => {}
-    }
-    lines
-}
-
 #[test]
 fn vectors() {
     vectors::programs("the program", program);
@@ -95,12 +75,14 @@ fn generated() {
     let mut coverage = Coverage::new(false);
     let mut progress = Progress::new("program", CASES);
     for number in 0..CASES {
-        let input = input(&mut Rng::of_case(seed(), 6, number), &mut buffers);
-        coverage.refusal(refusal(&compared(&input)));
+        let input = generator::program(&mut Rng::of_case(seed(), 6, number), &mut buffers);
+        let written = compared(&input);
+        laws::program(&input, &written);
+        coverage.program(&input, &written);
         progress.step(number);
     }
     progress.finish(&coverage.summary());
-    coverage.require("program", &[4, 6, 7, 10, 12], &[]);
+    coverage.require_of_program();
 }
 
 /// The record ends where the input does, with a line end or without one. Its
@@ -171,11 +153,4 @@ fn swelling(values: usize, length: usize) -> (Vec<u8>, Vec<u8>, String) {
     let marks = vec![paper::VALUE_MARK; values - 1];
     let record = [b"K1\xfe", marks.as_slice()].concat();
     (code, record, vec![text; values].join("]"))
-}
-
-/// The refusal number that a written line begins with.
-fn refusal(line: &[u8]) -> u64 {
-    let text = String::from_utf8_lossy(line);
-    let word = text.split(' ').next().expect("a line has a word");
-    word.parse().expect("the first word is a number")
 }

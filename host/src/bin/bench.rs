@@ -277,19 +277,45 @@ fn round(mut call: impl FnMut()) -> f64 {
 
 /// All that is timed.
 fn workloads() -> Vec<Workload> {
-    let mut workloads = vec![
-        Workload {
-            name: "small F code on a small record",
-            call: convert(b"K1\xfe10\xfd20\xfe3".to_vec(), b"F;1;2R;*", 64),
-        },
+    let mut workloads = vec![Workload {
+        name: "small F code on a small record",
+        call: convert(b"K1\xfe10\xfd20\xfe3".to_vec(), b"F;1;2R;*", 64),
+    }];
+    workloads.extend(on_numbers());
+    workloads.extend(dates());
+    workloads.extend(long_elements());
+    workloads.extend(pattern_codes());
+    workloads.extend(checks());
+    workloads.extend(at_end());
+    workloads.extend(empty_values());
+    workloads
+}
+
+/// Numbers read and written.
+fn on_numbers() -> Vec<Workload> {
+    vec![
         Workload {
             name: "1,500 elements: two loads, product, mask",
             call: convert(two_columns(), b"F;1;2;*\xfdMR2,$(#16)", 32_768),
         },
         Workload {
+            name: "100 elements through an F code of 84 additions and subtractions",
+            call: convert(column(100, days), &sums(), 32_768),
+        },
+        Workload {
             name: "1,500 halves, every other one negative, through MR24,",
             call: convert(column(1_500, halves), b"MR24,", 32_768),
         },
+        Workload {
+            name: "the same halves with blanks round them",
+            call: convert(column(1_500, blanked_halves), b"MR24,", 32_768),
+        },
+    ]
+}
+
+/// Dates both ways.
+fn dates() -> Vec<Workload> {
+    vec![
         Workload {
             name: "dates: 1,500 days through D",
             call: convert(column(1_500, days), b"D", 32_768),
@@ -301,13 +327,7 @@ fn workloads() -> Vec<Workload> {
                 text: b"2/29/2000".to_vec(),
             },
         },
-    ];
-    workloads.extend(long_elements());
-    workloads.extend(pattern_codes());
-    workloads.extend(checks());
-    workloads.extend(at_end());
-    workloads.extend(empty_values());
-    workloads
+    ]
 }
 
 /// What it takes to go over elements.
@@ -468,6 +488,11 @@ fn two_columns() -> Vec<u8> {
     [b"K1\xfe".to_vec(), prices, b"\xfe".to_vec(), amounts].concat()
 }
 
+/// An F code of as many additions and subtractions as there is room for.
+fn sums() -> Vec<u8> {
+    [b"F;LPV".to_vec(), b";'7';+;'3';-".repeat(42)].concat()
+}
+
 fn values(count: u64, value: impl Fn(u64) -> Vec<u8>) -> Vec<u8> {
     let values: Vec<Vec<u8>> = (0..count).map(value).collect();
     values.join(&paper::VALUE_MARK)
@@ -477,6 +502,11 @@ fn values(count: u64, value: impl Fn(u64) -> Vec<u8>) -> Vec<u8> {
 fn halves(number: u64) -> Vec<u8> {
     let sign = if number % 2 == 1 { "-" } else { "" };
     format!("{sign}{}", number * 1_234_500 + 50).into_bytes()
+}
+
+/// These numbers with two blanks before them and one behind.
+fn blanked_halves(number: u64) -> Vec<u8> {
+    [b"  ".to_vec(), halves(number), b" ".to_vec()].concat()
 }
 
 /// Days from all over the calendar.

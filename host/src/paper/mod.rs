@@ -1,6 +1,6 @@
-//! Document 01 with requests L1 and L2 of document 02, the P code and the
-//! rounding of halves, written down once more, from these two, the two standards
-//! and the readings of `docs/DECISIONS.md` alone.
+//! Document 01 with requests L1 to L3 of document 02, the P code, the rounding of
+//! halves and blanks round numbers, written down once more, from these two, the two
+//! standards and the readings of `docs/DECISIONS.md` alone.
 //!
 //! Nothing here comes from the proved library or knows how it works: the two
 //! are compared on all they give, every byte of output and scratch included.

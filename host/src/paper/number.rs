@@ -13,7 +13,7 @@ pub const POWERS_OF_TEN: [i64; 10] = [
 /// Reads a number: `None` if `text` has no numeric form, refusal 10 if it has
 /// one and its value is out of range.
 pub fn read(text: &[u8]) -> Result<Option<i64>, Refusal> {
-    let (negative, digits) = match text {
+    let (negative, digits) = match within_blanks(text) {
         [b'-', digits @ ..] => (true, digits),
         [b'+', digits @ ..] => (false, digits),
         digits => (false, digits),
@@ -32,6 +32,19 @@ pub fn read(text: &[u8]) -> Result<Option<i64>, Refusal> {
         }
     }
     in_range(if negative { -size } else { size }).map(Some)
+}
+
+/// What stands within the blanks of a text. Document 02, L3: "Numeric form should
+/// ignore blanks (byte 32) before and after, not between. An element of blanks alone
+/// is still not numeric."
+fn within_blanks(mut text: &[u8]) -> &[u8] {
+    while let [b' ', behind @ ..] = text {
+        text = behind;
+    }
+    while let [before @ .., b' '] = text {
+        text = before;
+    }
+    text
 }
 
 /// Reads a number, taking text without numeric form as 0.
@@ -76,7 +89,7 @@ mod tests {
 
     #[test]
     fn numeric_form() {
-        for text in ["", "+", "-", " 42", "1.5", "--1", "1-", "9999999999999999x"] {
+        for text in ["", "+", "-", "1.5", "--1", "1-", "9999999999999999x"] {
             assert_eq!(read(text.as_bytes()), Ok(None), "{text:?}");
         }
         for (text, value) in [("-0", 0), ("+007", 7), ("-999999999999999", -LIMIT)] {
@@ -92,6 +105,29 @@ mod tests {
         let mut zeros = vec![b'0'; 1_000];
         zeros.push(b'7');
         assert_eq!(read(&zeros), Ok(Some(7)));
+    }
+
+    #[test]
+    fn blanks_round_a_number() {
+        for (text, value) in [(" 42", 42), ("42   ", 42), (" +5 ", 5), ("  -0 ", 0)] {
+            assert_eq!(read(text.as_bytes()), Ok(Some(value)), "{text:?}");
+        }
+        for text in [" ", "   ", " + ", "- 5", "4 2", " 4 2 ", " \t5 "] {
+            assert_eq!(read(text.as_bytes()), Ok(None), "{text:?}");
+        }
+        let is_other = |byte: &u8| !byte.is_ascii_digit() && *byte != b' ';
+        for byte in (0..=255).filter(is_other) {
+            let before = (byte != b'+' && byte != b'-').then_some([byte, b'5']);
+            for text in before.into_iter().chain([[b'5', byte]]) {
+                assert_eq!(read(&text), Ok(None), "{text:?}");
+            }
+        }
+        let past = " 1000000000000000 ";
+        assert_eq!(read(past.as_bytes()), Err(Refusal::OutOfRange));
+        let mut many = vec![b' '; 1_024];
+        assert_eq!(read(&many), Ok(None));
+        many[700] = b'7';
+        assert_eq!(read(&many), Ok(Some(7)));
     }
 
     #[test]

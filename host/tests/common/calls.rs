@@ -90,6 +90,17 @@ impl ConvertCall {
         }
     }
 
+    /// This call with budget enough, and room for one element converted or for all of
+    /// them as they are.
+    pub fn with_enough(&self) -> Self {
+        ConvertCall {
+            budget: u64::MAX,
+            output_length: self.record.len().max(paper::ENTRY_LENGTH),
+            scratch_length: SCRATCH_LENGTH,
+            ..self.clone()
+        }
+    }
+
     /// The call for the ceiling of this one.
     pub fn ceiling(&self) -> CeilingCall {
         CeilingCall {

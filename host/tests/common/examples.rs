@@ -1,4 +1,4 @@
-//! The examples of document 01 and of requests L1 and L2 of document 02, and the
+//! The examples of document 01 and of requests L1 to L3 of document 02, and the
 //! points at which their readings part.
 
 use sundewfrill_host::outcome::{Address, Ceiling, Check, Convert, Implementation, TypedDate};
@@ -35,22 +35,25 @@ fn converted(
         output_length: paper::RECORD_LENGTH,
         scratch_length: SCRATCH_LENGTH,
     };
-    let mut buffers = Buffers::default();
-    let outcome = call.run(implementation, &mut buffers);
-    let answer = buffers.output.after()[..outcome.length as usize].to_vec();
-    (outcome, answer)
+    outcome(implementation, &call)
 }
 
 /// The refusal number and the answer of `code` on one element.
 fn given(implementation: &Implementation, code: &str, element: &str) -> (u64, String) {
     let call = ConvertCall::of_element(code.as_bytes(), element.as_bytes());
-    let mut buffers = Buffers::default();
-    let outcome = call.run(implementation, &mut buffers);
-    let answer = &buffers.output.after()[..outcome.length as usize];
+    let (outcome, answer) = outcome(implementation, &call);
     (
         outcome.refusal,
-        String::from_utf8_lossy(answer).into_owned(),
+        String::from_utf8_lossy(&answer).into_owned(),
     )
+}
+
+/// What comes of a call, and its answer.
+fn outcome(implementation: &Implementation, call: &ConvertCall) -> (Convert, Vec<u8>) {
+    let mut buffers = Buffers::default();
+    let outcome = call.run(implementation, &mut buffers);
+    let answer = buffers.output.after()[..outcome.length as usize].to_vec();
+    (outcome, answer)
 }
 
 /// Runs all examples.
@@ -59,6 +62,7 @@ pub fn run(implementation: &Implementation) {
     ceilings(implementation);
     single_codes(implementation);
     halves(implementation);
+    blanks(implementation);
     patterns(implementation);
     pattern_prices(implementation);
     lengths(implementation);
@@ -139,6 +143,24 @@ fn all_given(implementation: &Implementation, table: &[Given]) {
             (refusal, answer.to_owned()),
             "{code} on {element:?}"
         );
+    }
+}
+
+/// The same with the steps before the answer.
+type Counted = (&'static str, &'static str, u64, u64, &'static str);
+
+/// Fails unless each code of the table gives what it says, for so many steps.
+fn all_counted(implementation: &Implementation, table: &[Counted]) {
+    for &(code, element, refusal, steps, answer) in table {
+        let call = ConvertCall::of_element(code.as_bytes(), element.as_bytes());
+        let expected = Convert {
+            refusal,
+            steps,
+            length: answer.len() as u64,
+        };
+        let expected = (expected, answer.as_bytes().to_vec());
+        let outcome = outcome(implementation, &call);
+        assert_eq!(outcome, expected, "{code} on {element:?}");
     }
 }
 
@@ -232,6 +254,47 @@ fn halves(implementation: &Implementation) {
         ("F;'-25';'10';/", "", 0, "-2"),
     ];
     all_given(implementation, &TABLE);
+}
+
+/// Numbers with blanks round them, texts that are none, what they cost, and an address
+/// with a blank.
+fn blanks(implementation: &Implementation) {
+    const TABLE: [Counted; 29] = [
+        // Of the readings.
+        ("F;' 42';'1';+", "", 0, 13, "43"),
+        ("F;' +5 ';'1';+", "", 0, 14, "6"),
+        ("F;'  ';'1';+", "", 0, 10, "1"),
+        ("F;'- 5';'1';+", "", 0, 12, "1"),
+        ("F;'4 2';'1';+", "", 0, 12, "1"),
+        ("F;'\t5';'1';+", "", 0, 10, "1"),
+        ("F;'abcdef';' 2 ';' 3';[]", "", 0, 29, "bcd"),
+        ("F;'42 ';' 42';=", "", 0, 16, "1"),
+        ("F;' 9';'10';<", "", 0, 12, "1"),
+        ("F;'  ';'0';=", "", 0, 10, "0"),
+        ("F;' 1000000000000000 ';'1';+", "", 10, 21, ""),
+        ("F;' 1000000000000000 ';'x';=", "", 0, 42, "0"),
+        ("F;' 42';'';:", "", 0, 12, " 42"),
+        ("MR2", " 1234 ", 0, 12, "12.34"),
+        ("MR2", "  ", 12, 0, ""),
+        ("MR2Z", " 0 ", 0, 4, ""),
+        ("MR2Z(#4)", " 00 ", 0, 9, "    "),
+        ("D", " 0", 0, 14, "31 DEC 1967"),
+        ("D", " ", 12, 0, ""),
+        ("D", "0\t", 12, 0, ""),
+        ("D", " 2933629 ", 10, 0, ""),
+        ("L", " 42", 0, 5, "3"),
+        ("MY", " 41", 12, 0, ""),
+        // Where they could be misread.
+        ("ML", " -5  ", 0, 8, "-5"),
+        ("F;LPV;' 7 ';*", "6 ", 0, 15, "42"),
+        ("F;LPV;'0 ';/", " 7", 11, 6, ""),
+        ("F;' 42 ';P;_", "", 0, 35, " 42 "),
+        ("F;'ab';'1';'  ';[]", "", 0, 14, ""),
+        ("F;LPV;(MR0M);(MR2)", "5", 0, 13, "0.05"),
+    ];
+    all_counted(implementation, &TABLE);
+    let written = paper::program_with(b"MR2\n 1,0,0\nK\xfe5", implementation.convert);
+    assert_eq!(written, b"4 0 \n");
 }
 
 /// Which elements patterns pass and which they empty, parted by `|`. A P code
@@ -414,6 +477,8 @@ fn typed_dates(implementation: &Implementation) {
         ("D", "1 JAN 0000", 12, 0),
         ("D", "1 JAN 967", 12, 0),
         ("D", "1/1/1967", 12, 0),
+        ("D", " 1 JAN 1968", 12, 0),
+        ("D4/", "1/1/1968 ", 12, 0),
         ("D", "", 12, 0),
         ("D0", "1 JAN 1967", 12, 0),
         ("L", "1 JAN 1967", 6, 0),

@@ -3,14 +3,17 @@
 use std::fmt::Display;
 use std::ops::RangeInclusive;
 
+use sundewfrill_host::fields;
 use sundewfrill_host::outcome::{
     Address, Ceiling, Check, Convert, Find, Implementation, Replace, TypedDate,
 };
-use sundewfrill_host::{paper, SCRATCH_LENGTH};
+use sundewfrill_host::paper::{self, grammar::Elm};
 
 use super::buffers::{all_zero, Buffers};
 use super::calls::{CeilingCall, CheckCall, ConvertCall, DateCall, FindCall, ReplaceCall};
-use super::masks::{figures, filled, is_number, negated, without_field};
+use super::masks::{figures, filled, without_field};
+use super::numbers::{is_digits, is_number, negated};
+use super::operations::{fit, operation, Operation};
 use super::patterns::{has_cut, patterns, tests};
 
 /// The days of the calendar.
@@ -67,7 +70,8 @@ pub fn replace_reads_back(
     }
 }
 
-fn part<'r>(record: &'r [u8], found: &Find) -> &'r [u8] {
+/// What finding has found of a record; nothing where it is missing.
+pub fn part<'r>(record: &'r [u8], found: &Find) -> &'r [u8] {
     &record[found.start as usize..(found.start + found.length) as usize]
 }
 
@@ -273,8 +277,7 @@ fn pattern_elements<'c>(
         return None;
     }
     let elements = pieces(taken(call, b"P", implementation)?);
-    let fit = elements.iter().all(|element| element.len() <= 1_024);
-    fit.then_some(elements)
+    fit(&elements).then_some(elements)
 }
 
 /// What a call takes through one accepted code alone that begins with `letters`;
@@ -304,10 +307,7 @@ fn given_back(
 ) -> (u64, Vec<usize>) {
     let call = ConvertCall {
         code: code.to_vec(),
-        budget: u64::MAX,
-        output_length: call.record.len(),
-        scratch_length: SCRATCH_LENGTH,
-        ..call.clone()
+        ..call.with_enough()
     };
     let outcome = call.run(implementation, buffers);
     law(outcome.refusal == 0, "P refuses nothing", &call, &outcome);
@@ -364,12 +364,9 @@ fn before_fill(
     buffers: &mut Buffers,
 ) -> Result<String, u64> {
     let mut given = |code: &[u8]| {
-        let outcome = ConvertCall::of_element(code, number).run(implementation, buffers);
-        let answer = &buffers.output.after()[..outcome.length as usize];
-        match outcome.refusal {
-            0 => Ok(answer.escape_ascii().to_string()),
-            refusal => Err(refusal),
-        }
+        let call = ConvertCall::of_element(code, number);
+        let (_, given) = steps_and_given(&call, implementation, buffers);
+        given.map(|answer| answer.escape_ascii().to_string())
     };
     let (bare, field) = without_field(&call.code);
     let text = given(bare);
@@ -385,8 +382,80 @@ fn before_fill(
     text
 }
 
-/// An accepted date has a day of the calendar, day 0 without a sign; a refused
-/// one has none.
+/// The steps of a call, and its answer or the number of its refusal.
+fn steps_and_given(
+    call: &ConvertCall,
+    implementation: &Implementation,
+    buffers: &mut Buffers,
+) -> (u64, Result<Vec<u8>, u64>) {
+    let outcome = call.run(implementation, buffers);
+    let given = match outcome.refusal {
+        0 => Ok(buffers.output.after()[..outcome.length as usize].to_vec()),
+        refusal => Err(refusal),
+    };
+    (outcome.steps, given)
+}
+
+/// "Numeric form should ignore blanks (byte 32) before and after, not between": a
+/// conversion of one element that comes down to one operation on numbers gives the
+/// same wherever the operands stand, with the blanks round them taken away and with
+/// others put there. ML, MR and D refuse 12 exactly what is neither empty nor numeric.
+pub fn blanks(call: &ConvertCall, implementation: &Implementation, buffers: &mut Buffers) {
+    let Some(operation) = operation(call, implementation) else {
+        return;
+    };
+    if !fit(&operation.operands) || !fit(&[operation.element]) {
+        return;
+    }
+    let (_, by_call) = steps_and_given(&call.with_enough(), implementation, buffers);
+    let mut of = |operands: &[Vec<u8>]| operated(&operation, operands, implementation, buffers);
+    let given = of(&operation.operands);
+    let same = given == by_call;
+    law(same, "operands in attributes", call, &(&given, &by_call));
+    for operands in operation.alike() {
+        let other = of(&operands);
+        let (same, shown) = (other == given, (&given, operands, other));
+        law(same, "blanks round numbers", call, &shown);
+    }
+    if let (Elm::Convert(_), [taken]) = (&operation.elm, operation.operands.as_slice()) {
+        let refused = !taken.is_empty() && !is_number(taken);
+        let told = (given == Err(12)) == refused;
+        law(told, "what has no numeric form", call, &given);
+    }
+}
+
+/// What an operation gives of operands that are loaded from attributes of their own.
+/// "Step costs still count the bytes as they stand": what is loaded, what the
+/// operation takes, and what it puts.
+fn operated(
+    operation: &Operation,
+    operands: &[Vec<u8>],
+    implementation: &Implementation,
+    buffers: &mut Buffers,
+) -> Result<Vec<u8>, u64> {
+    let (mut record, mut code) = (b"K1".to_vec(), b"F;".to_vec());
+    for (operand, attribute) in operands.iter().zip(1..) {
+        record.push(paper::ATTRIBUTE_MARK);
+        record.extend(operand);
+        code.extend(format!("{attribute};").bytes());
+    }
+    code.extend(&operation.spelling);
+    let call = ConvertCall {
+        record,
+        code,
+        ..ConvertCall::of_element(b"", b"")
+    };
+    let (steps, given) = steps_and_given(&call, implementation, buffers);
+    let bytes: usize = operands.iter().map(Vec::len).sum();
+    let loads = operands.len() * (1 + call.record.len()) + bytes;
+    let step = given.as_ref().map_or(0, |answer| 1 + bytes + answer.len());
+    let priced = steps == (loads + step) as u64;
+    law(priced, "bytes as they stand", &call, &(steps, &given));
+    given
+}
+
+/// An accepted date has a day of the calendar, day 0 without a sign, and a digit at
+/// either end, no blank; a refused one has no day.
 pub fn date(call: &DateCall, outcome: &TypedDate) {
     let given = match outcome.refusal {
         0 => is_day(outcome.negative, outcome.size),
@@ -394,6 +463,9 @@ pub fn date(call: &DateCall, outcome: &TypedDate) {
         _ => false,
     };
     law(given, "the day of a typed date", call, outcome);
+    let ends = [call.text.first(), call.text.last()].map(|end| end.is_some_and(u8::is_ascii_digit));
+    let typed = outcome.refusal != 0 || ends == [true, true];
+    law(typed, "the ends of a typed date", call, outcome);
     let long = (outcome.refusal == 5) == (call.code.len() > 512);
     law(long, "a code over 512", call, outcome);
 }
@@ -408,4 +480,31 @@ fn is_day(negative: u64, size: u64) -> bool {
         1 => size > 0 && DAYS.contains(&-size),
         _ => false,
     }
+}
+
+/// The program writes a refusal number, steps and an answer, which a refusal has not,
+/// parted by single blanks. "If line 2 is not three numbers of 1 to 5 digits parted by
+/// commas, it prints `4 0 ` and a line end".
+pub fn program(input: &[u8], written: &[u8]) {
+    let (call, shown) = (fields::write(input), written.escape_ascii().to_string());
+    let words: Vec<&[u8]> = written.splitn(3, |&byte| byte == b' ').collect();
+    let three = match words.as_slice() {
+        [refusal, steps, answer] => {
+            let counted = [refusal, steps].into_iter().all(|word| is_digits(word));
+            counted && answer.ends_with(b"\n") && (*refusal == b"0" || *answer == b"\n")
+        }
+        _ => false,
+    };
+    law(three, "what the program writes", &call, &shown);
+    // "only 65,536 bytes are read"
+    let read = &input[..input.len().min(65_536)];
+    let address = read.split(|&byte| byte == b'\n').nth(1).unwrap_or(&[]);
+    let right = is_address(address) || written == b"4 0 \n";
+    law(right, "line 2 of the program", &call, &shown);
+}
+
+fn is_address(line: &[u8]) -> bool {
+    let numbers: Vec<&[u8]> = line.split(|&byte| byte == b',').collect();
+    let is_short = |number: &[u8]| is_digits(number) && number.len() <= 5;
+    numbers.len() == 3 && numbers.into_iter().all(is_short)
 }

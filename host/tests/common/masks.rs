@@ -1,5 +1,5 @@
-//! ML and MR codes as they are spelt: an accepted one parted from its field, what
-//! a field makes of a text, and the negative of a number.
+//! ML and MR codes as they are spelt: an accepted one parted from its field, and
+//! what a field makes of a text.
 
 /// A field: what it is filled with, and how wide it is.
 pub type Field = (char, usize);
@@ -36,21 +36,4 @@ pub fn filled(code: &[u8], text: &str, (fill, width): Field) -> Option<String> {
 pub fn figures(text: &str) -> String {
     let shown = |byte: &char| byte.is_ascii_digit() || matches!(byte, '.' | ',');
     text.chars().filter(shown).collect()
-}
-
-/// Whether a text has numeric form.
-pub fn is_number(text: &[u8]) -> bool {
-    let digits = match text {
-        [b'+' | b'-', digits @ ..] => digits,
-        digits => digits,
-    };
-    !digits.is_empty() && digits.iter().all(u8::is_ascii_digit)
-}
-
-/// A number with the other sign.
-pub fn negated(number: &[u8]) -> Vec<u8> {
-    match number.strip_prefix(b"-") {
-        Some(digits) => digits.to_vec(),
-        None => [b"-", number.strip_prefix(b"+").unwrap_or(number)].concat(),
-    }
 }

@@ -9,6 +9,8 @@ pub mod examples;
 pub mod generator;
 pub mod laws;
 pub mod masks;
+pub mod numbers;
+pub mod operations;
 pub mod patterns;
 pub mod progress;
 pub mod vectors;

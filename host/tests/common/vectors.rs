@@ -21,7 +21,7 @@ struct File {
 }
 
 /// All stored files.
-const FILES: [File; 9] = [
+const FILES: [File; 10] = [
     file("find.tsv", Some("find"), 1_500),
     file("replace.tsv", Some("replace"), 1_500),
     file("check.tsv", Some("check"), 2_500),
@@ -31,6 +31,7 @@ const FILES: [File; 9] = [
     file("program.tsv", Some("program"), 1_500),
     file("L1.tsv", None, 1_216),
     file("L2.tsv", None, 1_314),
+    file("L3.tsv", None, 1_186),
 ];
 
 const fn file(name: &'static str, call: Option<&'static str>, rows: usize) -> File {

@@ -11,6 +11,8 @@ use super::super::calls::{
 };
 use super::super::generator::NEAR_MISSES;
 use super::super::laws::{came_to_end, DAYS};
+use super::super::numbers::bare_value;
+use super::blanks::{ADDRESS_BLANKS, BLANKS, FORMS, RELATIONS, TYPED_BLANKS};
 use super::masks::{NEGATIVE_HALF, POSITIVE_HALF, SCALED};
 use super::patterns::{PASSES, PATTERN_STRINGS};
 use super::steps::{deepest, STEPS};
@@ -41,7 +43,16 @@ impl Coverage {
         let steps = STEPS.concat();
         let ends = [NUMBER_ENDS, RESULT_ENDS, DAY_ENDS].concat();
         let given = [PASSES.as_slice(), &POSITIVE_HALF, &NEGATIVE_HALF, &SCALED].concat();
-        let tags: [&[&str]; 6] = [&steps, &PLACES, &strings(), &CONVERTS, &ends, &given];
+        let blanks = [FORMS.concat().as_slice(), &RELATIONS, &BLANKS].concat();
+        let tags: [&[&str]; 7] = [
+            &steps,
+            &PLACES,
+            &strings(),
+            &CONVERTS,
+            &ends,
+            &given,
+            &blanks,
+        ];
         self.require("convert", &refusals, &tags);
     }
 
@@ -54,7 +65,19 @@ impl Coverage {
 
     /// Fails unless reading typed dates has reached everything.
     pub fn require_of_date(&self) {
-        self.require("date", &[5, 6, 12], &[&DATES]);
+        self.require("date", &[5, 6, 12], &[&DATES, &TYPED_BLANKS]);
+    }
+
+    /// Notes what the program writes.
+    pub fn program(&mut self, input: &[u8], written: &[u8]) {
+        let refusal = refusal(written);
+        self.refusal(refusal);
+        self.address_blanks(input, refusal);
+    }
+
+    /// Fails unless the program has reached everything.
+    pub fn require_of_program(&self) {
+        self.require("program", &[4, 6, 7, 10, 12], &[&ADDRESS_BLANKS]);
     }
 }
 
@@ -177,6 +200,7 @@ impl Coverage {
             self.element(&call.code, part, refusal);
             self.pattern_code(&call.code, part, refusal);
             self.mask_code(&call.code, part, refusal);
+            self.blanks(call, part, refusal);
         }
         self.tag_if(accepted && found.found == 0, "missing place");
         let longest = call.record.len() == 32_768;
@@ -220,6 +244,7 @@ impl Coverage {
             let pattern_code = refusal == 6 && call.code.starts_with(b"P(");
             pattern_code && paper::check(&call.code).refusal == 0
         });
+        self.typed_blanks(call, refusal);
         let (front, year) = call.text.split_at(before_digits(&call.text));
         self.tag_if(accepted && year.len() == 2, "year of 2 digits");
         self.tag_if(accepted && year.len() == 4, "year of 4 digits");
@@ -324,7 +349,7 @@ impl Coverage {
         if code.len() > 40 || !matches!(refusal, 0 | 10) {
             return;
         }
-        let Some(number) = number(element) else {
+        let Some(number) = bare_value(element) else {
             return;
         };
         match grammar::read(code).as_deref() {
@@ -359,17 +384,12 @@ fn before_digits(text: &[u8]) -> usize {
     last.map_or(0, |place| place + 1)
 }
 
-/// A number in numeric form, of any size that fits.
-pub fn number(text: &[u8]) -> Option<i128> {
-    std::str::from_utf8(text).ok()?.parse().ok()
-}
-
 /// What `LPV`, a literal and an operator give of this number, both in range.
 fn result(second: i128, elms: &[Elm]) -> Option<i128> {
     let [Elm::Previous, Elm::Literal(text), Elm::Arithmetic(operator)] = elms else {
         return None;
     };
-    let top = number(text)?;
+    let top = bare_value(text)?;
     if second.abs() > LAST_NUMBER || top.abs() > LAST_NUMBER {
         return None;
     }
@@ -379,4 +399,11 @@ fn result(second: i128, elms: &[Elm]) -> Option<i128> {
         Operator::Multiply(None) => Some(second * top),
         _ => None,
     }
+}
+
+/// The refusal number that a line of the program begins with.
+pub fn refusal(written: &[u8]) -> u64 {
+    let text = String::from_utf8_lossy(written);
+    let word = text.split(' ').next().expect("a line has a word");
+    word.parse().expect("the first word is a number")
 }

@@ -7,8 +7,8 @@ use sundewfrill_host::paper::grammar::{self, Code, Conversion, Mask};
 
 use super::super::buffers::Buffers;
 use super::super::calls::{ConvertCall, PAPER};
-use super::super::masks::negated;
-use super::limits::{number, LAST_NUMBER};
+use super::super::numbers::{bare_value, negated};
+use super::limits::LAST_NUMBER;
 use super::Coverage;
 
 /// One below a half, the half, and one above it.
@@ -47,7 +47,7 @@ impl Coverage {
         let Ok([Code::Conversion(Conversion::Mask(mask))]) = codes.as_deref() else {
             return;
         };
-        let Some(number) = number(element).filter(|number| number.abs() <= LAST_NUMBER) else {
+        let Some(number) = bare_value(element).filter(|number| number.abs() <= LAST_NUMBER) else {
             return;
         };
         let decimals = u32::from(mask.decimals.unwrap_or(0));

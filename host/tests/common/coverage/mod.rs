@@ -1,7 +1,8 @@
 //! What generated calls have reached: every refusal, every code letter, every
-//! elm, every mask option, every kind of test, every limit on both sides, and
-//! the halves at which masks round.
+//! elm, every mask option, every kind of test, every limit on both sides, the
+//! halves at which masks round, and blanks wherever a number is read.
 
+mod blanks;
 mod limits;
 mod masks;
 mod patterns;

@@ -162,7 +162,7 @@ fn literal(rng: &mut Rng) -> Vec<u8> {
         2 => elements::element(rng, &Kind::Text),
         3 => elements::element(rng, &Kind::Any),
         4 => vec![b'x'; rng.small(300) as usize],
-        _ => elements::number(rng),
+        _ => elements::blanked_number(rng),
     };
     content.retain(|&byte| byte != quote);
     content.truncate(300);
@@ -280,7 +280,7 @@ fn rounding_function(rng: &mut Rng) -> (Vec<u8>, Kind) {
 }
 
 /// An ML or MR code with these digits for n and m.
-fn mask_with(rng: &mut Rng, digits: &str) -> Vec<u8> {
+pub fn mask_with(rng: &mut Rng, digits: &str) -> Vec<u8> {
     let mut code = vec![b'M', *rng.pick(b"LR")];
     code.extend_from_slice(digits.as_bytes());
     if rng.one_in(4) {

@@ -1,7 +1,7 @@
 //! Typed dates: in the form of their code, or nearly.
 
 use super::super::calls::DateCall;
-use super::{codes, elements, Rng};
+use super::{blanks, codes, elements, Rng};
 
 const MONTHS: [&str; 13] = [
     "JAN", "FEB", "MAR", "APR", "MAY", "JUN", "JUL", "AUG", "SEP", "OCT", "NOV", "DEC", "XYZ",
@@ -30,6 +30,9 @@ pub fn call(rng: &mut Rng) -> DateCall {
     };
     if rng.one_in(8) {
         rng.damage(&mut text, |rng| *rng.pick(b"0123456789 /-.JANfeb\x00\xfe"));
+    }
+    if rng.one_in(20) {
+        text = blanks::beside(rng, &text);
     }
     if rng.one_in(60) {
         rng.damage(&mut code, |rng| *rng.pick(b"D012345/ F;()\xfd\xfb"));

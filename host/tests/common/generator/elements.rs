@@ -1,6 +1,6 @@
 //! Elements: what stands between the marks.
 
-use super::Rng;
+use super::{blanks, Rng};
 
 /// What an element is good for.
 #[derive(Clone, Debug, PartialEq, Eq)]
@@ -46,9 +46,15 @@ pub fn element(rng: &mut Rng, kind: &Kind) -> Vec<u8> {
         return Vec::new();
     }
     match kind {
-        Kind::Number | Kind::Any => number(rng),
-        Kind::Half(unit) => half(rng, *unit),
-        Kind::Day => day(rng),
+        Kind::Number | Kind::Any => blanked_number(rng),
+        Kind::Half(unit) => {
+            let number = half(rng, *unit);
+            blanks::at_times(rng, number)
+        }
+        Kind::Day => {
+            let number = day(rng);
+            blanks::at_times(rng, number)
+        }
         Kind::Hex => hex(rng),
         Kind::Fields => separated(rng),
         Kind::Text => text(rng),
@@ -75,6 +81,12 @@ pub fn any_byte(rng: &mut Rng) -> u8 {
     rng.below(251) as u8
 }
 
+/// A number, at times with blanks round it.
+pub fn blanked_number(rng: &mut Rng) -> Vec<u8> {
+    let number = number(rng);
+    blanks::at_times(rng, number)
+}
+
 /// A number in or about its range, or something that looks like one.
 pub fn number(rng: &mut Rng) -> Vec<u8> {
     const NEAR: [u64; 10] = [
@@ -89,15 +101,13 @@ pub fn number(rng: &mut Rng) -> Vec<u8> {
         1_000_000_000,
         9_223_372_036_854_775_807,
     ];
-    const ODD: [&str; 16] = [
+    const ODD: [&str; 14] = [
         "-0",
         "+0",
         "000",
         "-00",
         "+",
         "-",
-        " 42",
-        "42 ",
         "1.5",
         "1e3",
         "--5",
@@ -144,7 +154,7 @@ fn half(rng: &mut Rng, unit: u64) -> Vec<u8> {
 }
 
 /// A day in or about the calendar.
-fn day(rng: &mut Rng) -> Vec<u8> {
+pub fn day(rng: &mut Rng) -> Vec<u8> {
     const NEAR: [i64; 8] = [-718_431, -718_430, 2_933_628, 2_933_629, 0, 60, -1, 59];
     let day = match rng.below(8) {
         0 => *rng.pick(&NEAR),

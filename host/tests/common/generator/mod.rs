@@ -4,6 +4,7 @@
 //! get far; then some bytes are changed, some lengths put on a limit, some
 //! buffers made too short. `coverage` says whether everything was reached.
 
+mod blanks;
 mod codes;
 mod dates;
 mod elements;
@@ -16,6 +17,7 @@ use sundewfrill_host::{paper, Refusal, SCRATCH_LENGTH};
 
 use super::buffers::Buffers;
 use super::calls::{CeilingCall, CheckCall, ConvertCall, DateCall, FindCall, ReplaceCall, PAPER};
+pub use blanks::NO_BLANKS;
 pub use elements::Kind;
 pub use patterns::NEAR_MISSES;
 pub use rng::Rng;
@@ -78,6 +80,7 @@ pub fn convert(rng: &mut Rng, buffers: &mut Buffers) -> ConvertCall {
         0 => swelling(rng),
         1..=15 => at_an_end(rng),
         16..=40 => at_a_half(rng),
+        41..=140 => blanks::operation(rng),
         _ => suited(rng),
     };
     // Long records with many elements are kept from running for minutes.
@@ -226,4 +229,28 @@ fn vast_run(rng: &mut Rng) -> (Vec<u8>, Vec<u8>, Address) {
 /// A call of reading a typed date.
 pub fn date(rng: &mut Rng) -> DateCall {
     dates::call(rng)
+}
+
+/// Three lines for the program, now and then a damaged or a missing one.
+pub fn program(rng: &mut Rng, buffers: &mut Buffers) -> Vec<u8> {
+    let call = convert(rng, buffers);
+    let mut address = format!("{},{},{}", call.at.a, call.at.v, call.at.s).into_bytes();
+    match rng.below(20) {
+        0 | 1 => {
+            let byte = *rng.pick(b",0 9-\r");
+            rng.insert(&mut address, byte);
+        }
+        2 | 3 => address = blanks::beside(rng, &address),
+        _ => {}
+    }
+    let mut lines = [&call.code, &address, &call.record]
+        .map(Vec::as_slice)
+        .join(&b'\n');
+    match rng.below(8) {
+        0 => lines.truncate(rng.below(lines.len() as u64 + 1) as usize),
+        1..=3 => lines.push(b'\n'),
+        4 => lines.extend_from_slice(b"\nmore\n"),
+        _ => {}
+    }
+    lines
 }
