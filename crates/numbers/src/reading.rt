@@ -74,6 +74,7 @@ fn sign_and_digits(s: &[u8]) -> Form
     }
     let first = s[0];
     let mut at = 0;
+    // most begin with a digit, and one look tells it; a sign is jumped over, so that the digits do not wait for it
     if first < b'0' {
         match first {
             b'+' | b'-' => at = 1,
