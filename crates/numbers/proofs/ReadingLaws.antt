@@ -1,4 +1,4 @@
--- Numeric form by scans, one that holds a size over the limit just over it and two over the blanks round it, against the definition. Assumes nothing.
+-- Numeric form by scans, two over the blanks and one over the digits, which holds a size over the limit just over it, against the definition. Assumes nothing.
 use mathlib.Core.Path.{_≡_, refl, sym, _∙_}
 use mathlib.Core.Bool.{Bool, true, false, not, _&&_}
 use mathlib.Core.List.{[], _∷_}
@@ -95,7 +95,7 @@ nothing-around s h =
     let ends = both (not (eqb first 32)) (not (eqb last 32)) h in
     sym (none-around s (eqb-false first 32 (not-true (eqb first 32) (ends .0))) (eqb-false last 32 (not-true (eqb last 32) (ends .1))))
 
--- the blanks before: one more is passed, another byte ends them, and none is left
+-- the blanks before: one more is passed, another byte ends them, or no byte is left
 pub blank-goes : (s : Bytes) (i : ℕ) → i < length s → eqb (getD s i 0) 32 ≡ true → after-blanks (drop (i + 1) s) ≡ after-blanks (drop i s)
 unfolding after-blanks
 blank-goes s i h e = rw (add-one i, drop-cons s i 0 h, e)
@@ -108,7 +108,7 @@ pub front-end : (s : Bytes) (i : ℕ) → length s ≤ i → drop i s ≡ after-
 unfolding after-blanks
 front-end s i h = rw (drop-of-length-le s h)
 
--- the blanks after: one more is left out, another byte ends them, and none is left
+-- the blanks after: one more is left out, another byte ends them, or no byte is left
 module _ (s : Bytes) (end : ℕ) (some-left : 0 < end) (inside : end ≤ length s) where
   pub blank-left : eqb (getD s (end - 1) 0) 32 ≡ true → before-blanks (take (end - 1) s) ≡ before-blanks (take end s)
   blank-left e = rw (last-byte s end some-left inside, eqb-true (getD s (end - 1) 0) 32 e) (sym (blank-after (take (end - 1) s)))

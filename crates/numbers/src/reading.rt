@@ -29,7 +29,7 @@ pub(crate) fn form(s: &[u8]) -> Form
     sign_and_digits(within_blanks(s))
 }
 
-// The part of the entry that is read: what stands within its blanks. Most have none, and two looks tell it.
+// The part of a text that is read: what stands within its blanks. Most have none, and two looks tell it.
 fn within_blanks(s: &[u8]) -> &[u8]
     ensures { λ r. ⌜ now r ≡ within-blanks (now (s .entry)) ⌝ }
 {
@@ -74,7 +74,7 @@ fn sign_and_digits(s: &[u8]) -> Form
     }
     let first = s[0];
     let mut at = 0;
-    // most begin with a digit, and one look tells it; a sign is jumped over, so that the digits do not wait for it
+    // most begin with a digit, and one look lets them by; a sign is jumped over, so that the digits do not wait for it
     if first < b'0' {
         match first {
             b'+' | b'-' => at = 1,
