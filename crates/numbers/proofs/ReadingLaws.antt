@@ -1,10 +1,10 @@
--- Numeric form by scans, two over the blanks and one over the digits, which holds a size over the limit just over it, against the definition. Assumes nothing.
+-- Numeric form by scans, two over the blanks and one over the digits, which leaves a size over the limit as it is, against the definition. Assumes nothing.
 use mathlib.Core.Path.{_≡_, refl, sym, _∙_}
 use mathlib.Core.Bool.{Bool, true, false, not, _&&_}
 use mathlib.Core.List.{[], _∷_}
 use mathlib.Core.Logic.{_⊎_, inl, inr, ⊎-elim}
 use mathlib.Core.Option.{none, some}
-use Prim.Native.Nat.{ℕ, zero, suc, _+_, _-_, _*_, _≤_, _<_, min}
+use Prim.Native.Nat.{ℕ, zero, suc, _+_, _-_, _*_, _≤_, _<_}
 use native.Mathlib.Nat.{not-suc-le-zero, le-of-eq}
 use native.Mathlib.Numerals.{add-one}
 use native.Mathlib.Omega.{arith}
@@ -19,7 +19,7 @@ use Rattle.paper.specs.Numbers.{Number as Whole, signed, value, digits-alone, s
 use Rattle.paper.proofs.Truths.{both, ltb-or}
 use Rattle.paper.proofs.Blanks.{blank-after, other-after, last-byte, none-around}
 use Rattle.numbers.specs.Forms.{in-range}
-use Rattle.numbers.specs.Scans.{value-form}
+use Rattle.numbers.specs.Scans.{raised, value-form}
 
 -- a size over the limit stays over it
 over : (negative : Bool) (n m : ℕ) (bs : Bytes) → number-most < n → number-most < m
@@ -35,18 +35,18 @@ over negative n m (d ∷ ds) a b =
     go onward true = onward
     go onward false = refl
 
-held : (negative : Bool) (n : ℕ) (bs : Bytes)
-    → value-form negative (value (min n (number-most + 1)) bs) ≡ value-form negative (value n bs)
-held negative n bs =
-    ⊎-elim (λ l. over negative (min n (number-most + 1)) n bs (omega arith) l) (λ l. let k : min n (number-most + 1) ≡ n = omega arith in rw k)
+held : (negative : Bool) (n d : ℕ) (bs : Bytes) → value-form negative (value (raised n d) bs) ≡ value-form negative (value (n * 10 + d) bs)
+unfolding raised
+held negative n d bs =
+    ⊎-elim (λ l. rw (lt-leb n number-most l) (over negative n (n * 10 + d) bs l (omega arith))) (λ l. rw (le-leb n number-most (omega arith)))
     (ltb-or number-most n)
 
 -- a turn of the scan: a digit goes in, another byte ends it
 pub digit-goes : (negative : Bool) (s : Bytes) (n i : ℕ) → i < length s → 48 ≤ getD s i 0 → getD s i 0 ≤ 57
-    → value-form negative (value (min (n * 10 + digit-value (getD s i 0)) (number-most + 1)) (drop (i + 1) s)) ≡ value-form negative (value n (drop i s))
+    → value-form negative (value (raised n (digit-value (getD s i 0))) (drop (i + 1) s)) ≡ value-form negative (value n (drop i s))
 unfolding value is-digit
 digit-goes negative s n i h low high =
-    held negative (n * 10 + digit-value (getD s i 0)) (drop (i + 1) s)
+    held negative n (digit-value (getD s i 0)) (drop (i + 1) s)
     ∙ rw (add-one i, drop-cons s i 0 h, le-leb 48 (getD s i 0) low, le-leb (getD s i 0) 57 high)
 
 pub other-ends : (negative : Bool) (s : Bytes) (n i : ℕ) → i < length s → (getD s i 0 < 48) ⊎ (57 < getD s i 0)

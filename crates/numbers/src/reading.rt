@@ -4,13 +4,12 @@ use crate::MOST;
 use crate::Number;
 use crate::Reckoned;
 ghost use mathlib.Core.Path.{_≡_};
-ghost use Prim.Native.Nat.{_+_, _*_, _≤_, min};
+ghost use Prim.Native.Nat.{_≤_};
 ghost use lib.ListN.{length, drop};
 ghost use Rattle.paper.specs.Bytes.{digit-value};
-ghost use Rattle.paper.specs.Sizes.{number-most};
 ghost use Rattle.paper.specs.Numbers.{value, digits-alone, sign-and-digits, after-blanks, before-blanks, within-blanks, numeric, ranged};
 ghost use Rattle.numbers.specs.Forms.{whole, reckoned-gives, form-gives, in-range, convertible};
-ghost use Rattle.numbers.specs.Scans.{value-form};
+ghost use Rattle.numbers.specs.Scans.{raised, value-form};
 
 // What ML, MR and D convert: "other non-numeric is 12"
 pub fn convertible(e: &[u8]) -> Reckoned
@@ -114,13 +113,15 @@ fn value_from(s: &[u8], at: usize, negative: bool) -> Form
     Form::Numeric(ranged(Number::signed(negative, size)))
 }
 
-// one digit more; a size over the limit stays just over it, however many digits follow
+// one digit more; a size over the limit stays as it is, however many digits follow
 fn raised(size: u64, b: u8) -> u64
-    requires { ⌜ (size ≤ number-most + 1) × (48 ≤ b) × (b ≤ 57) ⌝ }
-    ensures { λ r. ⌜ r ≡ min (size * 10 + digit-value b) (number-most + 1) ⌝ }
+    requires { ⌜ (48 ≤ b) × (b ≤ 57) ⌝ }
+    ensures { λ r. ⌜ r ≡ raised size (digit-value b) ⌝ }
 {
-    let next = size * 10 + (b - b'0') as u64;
-    if next <= MOST { next } else { MOST + 1 }
+    if MOST < size {
+        return size;
+    }
+    size * 10 + (b - b'0') as u64
 }
 
 // a number in range, or 10

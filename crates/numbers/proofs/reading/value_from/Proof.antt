@@ -6,7 +6,6 @@ use mathlib.Core.Option.{some}
 use Prim.Native.Nat.{ℕ, _+_, _-_, _≤_}
 use native.Mathlib.Omega.{arith}
 use lib.ListN.{length, drop}
-use Rattle.paper.specs.Sizes.{number-most}
 use Rattle.paper.specs.Numbers.{value, ranged}
 use Rattle.numbers.specs.Forms.{form-gives}
 use Rattle.numbers.specs.Scans.{value-form}
@@ -16,8 +15,7 @@ use Rattle.numbers.proofs.reading.value_from.Tie as tie
 
 abbrev Inv-loop : tie.InvT-loop
 Inv-loop s at negative size₀ i₀ size i =
-    (i ≤ length s) × (size ≤ number-most + 1)
-    × (value-form negative (value size (drop i s)) ≡ value-form negative (value 0 (drop at s)))
+    (i ≤ length s) × (value-form negative (value size (drop i s)) ≡ value-form negative (value 0 (drop at s)))
 
 abbrev μ-loop : tie.MeasureT-loop
 μ-loop s at negative size₀ i₀ size i = length s - i
@@ -27,10 +25,9 @@ loop-again c =
     let a = c .before .before .before .before .before .before .before .args in
     let l = c .before .before .before .before .before .loop in (
       omega arith,
-      omega arith,
       ap (λ (n : ℕ). value-form (a .negative) (value n (drop (l .i + 1) (a .s .now)))) (c .raised .ensures)
           ∙ digit-goes (a .negative) (a .s .now) (l .size) (l .i) (omega arith) (omega arith) (omega arith)
-          ∙ l .inv .2,
+          ∙ l .inv .1,
     )
 
 returns-3 : tie.Need-returns-3 Inv-loop μ-loop
@@ -40,13 +37,13 @@ returns-3 c =
     let l = c .before .before .before .loop in
     ap some (c .ranged .ensures ∙ ap ranged (c .before .signed .ensures))
     ∙ at-end (a .negative) (a .s .now) (l .size) (l .i) (c .before .before .loop-test .left)
-    ∙ l .inv .2
+    ∙ l .inv .1
 
 pub value-from-spec : {M : Type 1} → statement M
 unfolding form-gives
-value-from-spec = tie.close (tie.spec Inv-loop μ-loop (λ c. (c .before .pre, omega arith, refl)) (λ c. omega arith)
+value-from-spec = tie.close (tie.spec Inv-loop μ-loop (λ c. (c .before .pre, refl)) (λ c. omega arith)
     (λ c. let a = c .before .before .before .before .before .args in let l = c .before .before .before .loop in
-    other-ends (a .negative) (a .s .now) (l .size) (l .i) (omega arith) (inl (omega arith)) ∙ l .inv .2)
+    other-ends (a .negative) (a .s .now) (l .size) (l .i) (omega arith) (inl (omega arith)) ∙ l .inv .1)
     (λ c. let a = c .before .before .before .before .before .before .args in let l = c .before .before .before .before .loop in
-    other-ends (a .negative) (a .s .now) (l .size) (l .i) (omega arith) (inr (omega arith)) ∙ l .inv .2)
+    other-ends (a .negative) (a .s .now) (l .size) (l .i) (omega arith) (inr (omega arith)) ∙ l .inv .1)
     (λ c κs. omega arith) (λ c. omega arith) (λ c. omega arith) loop-again (λ c κs. tt) (λ c κs. tt) returns-3)
