@@ -1,0 +1,13 @@
+pub mod Ahead
+pub mod Laying
+pub mod Going
+pub mod Signs
+pub mod Fetching
+pub mod Lines
+pub mod Telling
+pub mod Pushing
+pub mod Reading
+pub mod Faults
+pub mod Meaning
+pub mod Examples
+pub mod Settled

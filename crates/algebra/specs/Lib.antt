@@ -1,0 +1,4 @@
+pub mod Expressions
+pub mod Grammar
+pub mod Showing
+pub mod Laying
