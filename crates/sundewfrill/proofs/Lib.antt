@@ -1,3 +1,4 @@
+pub mod Algebra
 pub mod Demands
 pub mod Rereading
 pub mod Settled

@@ -8,6 +8,7 @@ use Rattle.sundewfrill.proofs.sundewfrill_check.Reads as check
 use Rattle.sundewfrill.proofs.sundewfrill_ceiling.Reads as ceiling
 use Rattle.sundewfrill.proofs.sundewfrill_convert.Reads as convert
 use Rattle.sundewfrill.proofs.sundewfrill_typed_date.Reads as typed-date
+use Rattle.sundewfrill.proofs.sundewfrill_algebra.Reads as algebra
 
 -- found, start, length
 find-settled : (κs : Lfts 4) → (a : _) (r r′ : _) (e e′ : _) → find.Post κs a r e → find.Post κs a r′ e′
@@ -66,3 +67,8 @@ convert-settled κs a r r′ e e′ p q = (
 typed-date-settled : (κs : Lfts 4) → (a : _) (r r′ : _) (e e′ : _) → typed-date.Post κs a r e → typed-date.Post κs a r′ e′
     → (r ≡ r′) × (e .1 .1 .0 .now ≡ e′ .1 .1 .0 .now) × (e .1 .1 .1 .0 .now ≡ e′ .1 .1 .1 .0 .now)
 typed-date-settled κs a r r′ e e′ p q = (p .0 ∙ sym (q .0), p .1 .0 ∙ sym (q .1 .0), p .1 .1 ∙ sym (q .1 .1))
+
+-- length, output
+algebra-settled : (κs : Lfts 3) → (a : _) (r r′ : _) (e e′ : _) → algebra.Post κs a r e → algebra.Post κs a r′ e′
+    → (r ≡ r′) × (e .1 .1 .0 .now ≡ e′ .1 .1 .0 .now) × (e .1 .0 .now ≡ e′ .1 .0 .now)
+algebra-settled κs a r r′ e e′ p q = (p .0 ∙ sym (q .0), p .1 .0 ∙ sym (q .1 .0), p .1 .1 ∙ sym (q .1 .1))

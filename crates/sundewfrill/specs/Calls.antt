@@ -4,6 +4,7 @@ use lib.ListN.{length}
 use Rattle.paper.specs.Bytes.{Bytes, buffer}
 use Rattle.paper.specs.Refusals.{Res, answer-of}
 use Rattle.paper.specs.Records.{replace}
+use Rattle.algebra.specs.Showing.{show}
 use Rattle.paper.specs.Converting.{Outcome, convert, output-after, scratch-after}
 
 -- replacing, into this output
@@ -25,3 +26,10 @@ converted-output item code output scratch a v s budget =
 -- "Scratch is zeros throughout after every call."
 abbrev pub converted-scratch : Bytes → Bytes
 converted-scratch scratch = scratch-after (length scratch)
+
+-- an A code's F text, into this output
+abbrev pub displayed : Bytes → Bytes → Res Bytes
+displayed code output = show code (length output)
+
+abbrev pub displayed-output : Bytes → Bytes → Bytes
+displayed-output code output = buffer (length output) (answer-of (displayed code output))

@@ -1,4 +1,4 @@
-// The six calls for hosts in other languages, through plain numbers and byte slices: document 01's five, and its ceiling.
+// The seven calls for hosts in other languages, through plain numbers and byte slices: document 01's five, its ceiling, and document 02's A code.
 // Each returns the refusal's number, 0 for none; what else it gives goes behind the references, which it always writes.
 // They take any input and have no `requires`; the work is done by the crates below, whose answers are turned into numbers here.
 use convert::Bound;
@@ -26,7 +26,7 @@ ghost use Rattle.sundewfrill.specs.Numbers.{
   capping-in,
   dating-in,
 };
-ghost use Rattle.sundewfrill.specs.Calls.{replaced, converted, replaced-output, converted-output, converted-scratch};
+ghost use Rattle.sundewfrill.specs.Calls.{replaced, converted, displayed, replaced-output, converted-output, converted-scratch, displayed-output};
 
 // What finding gives, in numbers.
 struct Finding {
@@ -36,7 +36,7 @@ struct Finding {
     length: u64,
 }
 
-// What replacing gives, in numbers.
+// What replacing gives, and showing an A code, in numbers.
 struct Replacing {
     number: u64,
     length: u64,
@@ -91,7 +91,7 @@ fn of_found(found: Found) -> Finding
     }
 }
 
-// The new record's length, 0 on a refusal.
+// The length of the new record or the F text, 0 on a refusal.
 fn of_given(given: Given) -> Replacing
     ensures { λ r. ⌜ r ≡ replacing-in given ⌝ }
 {
@@ -285,5 +285,17 @@ pub extern "C" fn sundewfrill_typed_date(
     let told = of_day(typed::typed_date(code, text));
     *negative = told.negative;
     *size = told.size;
+    told.number
+}
+
+// "5 for an A code over 512, 6 if not an expression, 5 if the F text would pass 512 bytes, 7 as the F text earns it, 16, in that order"
+#[no_mangle]
+pub extern "C" fn sundewfrill_algebra(code: &[u8], output: &mut [u8], length: &mut u64) -> u64
+    ensures { λ r. ⌜ r ≡ refusal-of (displayed (now (code .entry)) (now (output .entry))) ⌝ }
+    ensures { λ _. ⌜ now (length .exit) ≡ answer-length (displayed (now (code .entry)) (now (output .entry))) ⌝ }
+    ensures { λ _. ⌜ now (output .exit) ≡ displayed-output (now (code .entry)) (now (output .entry)) ⌝ }
+{
+    let told = of_given(algebra::show(code, output));
+    *length = told.length;
     told.number
 }
