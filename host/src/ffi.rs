@@ -1,11 +1,13 @@
-//! The six functions that the proved library exports, and nothing else.
+//! The seven functions that the proved library exports, and nothing else.
 //!
 //! This is the only file with `unsafe` code. A slice crosses the border as a
 //! pointer and a length, two arguments of their own; a number that a call gives
 //! back crosses as a pointer to it. Each function returns the refusal number, 0
 //! for none.
 
-use crate::outcome::{Address, Ceiling, Check, Convert, Find, Implementation, Replace, TypedDate};
+use crate::outcome::{
+    Address, Algebra, Ceiling, Check, Convert, Find, Implementation, Replace, TypedDate,
+};
 
 extern "C" {
     fn sundewfrill_find(
@@ -78,13 +80,21 @@ extern "C" {
         negative: *mut u64,
         size: *mut u64,
     ) -> u64;
+
+    fn sundewfrill_algebra(
+        code: *const u8,
+        code_length: usize,
+        output: *mut u8,
+        output_length: usize,
+        length: *mut u64,
+    ) -> u64;
 }
 
 /// What a number holds before the call. No call gives it, so a number that the
 /// library leaves unwritten cannot pass for one that it gave.
 const UNWRITTEN: u64 = u64::MAX;
 
-/// The six calls, to be held against another implementation's.
+/// The seven calls, to be held against another implementation's.
 pub const IMPLEMENTATION: Implementation = Implementation {
     name: "the proved library",
     find,
@@ -93,6 +103,7 @@ pub const IMPLEMENTATION: Implementation = Implementation {
     convert,
     ceiling,
     typed_date,
+    algebra,
 };
 
 /// Finds the place `at` in `record`.
@@ -250,4 +261,22 @@ pub fn typed_date(code: &[u8], text: &[u8]) -> TypedDate {
         negative,
         size,
     }
+}
+
+/// Writes the F text of the A code `code` to `output`.
+pub fn algebra(code: &[u8], output: &mut [u8]) -> Algebra {
+    let mut length = UNWRITTEN;
+    // SAFETY: the first pair is a live slice that is only read; the second is a
+    // live slice borrowed for writing, so it does not overlap it; the number is
+    // live and ours alone during the call.
+    let refusal = unsafe {
+        sundewfrill_algebra(
+            code.as_ptr(),
+            code.len(),
+            output.as_mut_ptr(),
+            output.len(),
+            &mut length,
+        )
+    };
+    Algebra { refusal, length }
 }

@@ -3,10 +3,10 @@
 //!
 //! # The safe calls
 //!
-//! [`find`], [`replace`], [`check`], [`convert`], [`ceiling`] and [`typed_date`]
-//! call the proved library. They take byte slices, hand back structs or numbers,
-//! and refuse with a [`Refusal`], which has the paper's number and a sentence for
-//! the reader.
+//! [`find`], [`replace`], [`check`], [`convert`], [`ceiling`], [`typed_date`] and
+//! [`algebra`] call the proved library. They take byte slices, hand back structs,
+//! slices or numbers, and refuse with a [`Refusal`], which has the paper's number
+//! and a sentence for the reader.
 //!
 //! ```no_run
 //! # #[cfg(feature = "proved")]
@@ -26,7 +26,7 @@
 //!
 //! # The second implementation
 //!
-//! [`paper`] is document 01 with requests L1 to L3 of document 02 written down
+//! [`paper`] is document 01 with requests L1 to L4 of document 02 written down
 //! once more in Rust, from these, the two standards and the readings alone. The
 //! tests hold the proved library against it, and the benchmark takes it as its
 //! measure. It builds anywhere; the proved library is for x86-64 and comes in with
@@ -48,8 +48,8 @@ mod refusal;
 pub use outcome::Address;
 #[cfg(feature = "proved")]
 pub use proved::{
-    ceiling, check, convert, find, replace, typed_date, BadCode, Converted, Part, StepCounts,
-    Stopped,
+    algebra, ceiling, check, convert, find, replace, typed_date, BadCode, Converted, Part,
+    StepCounts, Stopped,
 };
 pub use refusal::Refusal;
 

@@ -119,10 +119,20 @@ impl TypedDate {
     }
 }
 
+/// The outcome of showing an A code as F; the F text is in the output.
+#[derive(Clone, Copy, Debug, Default, PartialEq, Eq)]
+pub struct Algebra {
+    /// The refusal number, 0 for none.
+    pub refusal: u64,
+    /// How many bytes the F text has.
+    pub length: u64,
+}
+
 /// How converting is called: record, code, place, budget, output, scratch.
 pub type Converting = fn(&[u8], &[u8], Address, u64, &mut [u8], &mut [u8]) -> Convert;
 
-/// One that carries out document 01's five calls and its ceiling.
+/// One that carries out document 01's five calls, its ceiling, and the showing of A
+/// codes.
 #[derive(Clone, Copy)]
 pub struct Implementation {
     /// What it is called in messages.
@@ -139,4 +149,6 @@ pub struct Implementation {
     pub ceiling: fn(&[u8], &[u8], Address) -> Ceiling,
     /// Reading a typed date: code, text.
     pub typed_date: fn(&[u8], &[u8]) -> TypedDate,
+    /// Showing an A code as F: code, output.
+    pub algebra: fn(&[u8], &mut [u8]) -> Algebra,
 }

@@ -192,6 +192,29 @@ pub fn typed_date(code: &[u8], text: &[u8]) -> Result<i64, Refusal> {
     Ok(outcome.day())
 }
 
+/// Writes the A code `code` as an F code to `output`, and hands back the F text:
+/// operands as they are written, each operator straight after its own.
+///
+/// Behind the F text `output` is cleared; on a refusal all of it is.
+///
+/// ```
+/// use sundewfrill_host::{algebra, Refusal};
+///
+/// let mut output = [0; 512];
+/// assert_eq!(algebra(b"A1+2*3", &mut output), Ok(b"F;1;2;+;3;*".as_slice()));
+/// assert_eq!(algebra(b"A1+(2*3)", &mut output), Ok(b"F;1;2;3;*;+".as_slice()));
+/// assert_eq!(algebra(b"A1+", &mut output), Err(Refusal::NotInGrammar));
+/// ```
+///
+/// # Errors
+///
+/// Refusals 5 for the A code, 6, 5 for the F text, 7, then 16.
+pub fn algebra<'o>(code: &[u8], output: &'o mut [u8]) -> Result<&'o [u8], Refusal> {
+    let outcome = ffi::algebra(code, output);
+    accepted(outcome.refusal)?;
+    Ok(&output[..size(outcome.length)])
+}
+
 /// A refusal number as a result.
 fn accepted(number: u64) -> Result<(), Refusal> {
     match Refusal::from_number(number) {

@@ -19,7 +19,7 @@ pub enum Refusal {
     BadItemId = 3,
     /// 4: the address is out of its sizes or leaves a gap.
     BadAddress = 4,
-    /// 5: the code string is over 512 bytes.
+    /// 5: the code string, an A code or its F text is over 512 bytes.
     CodeTooLong = 5,
     /// 6: a code is not in the grammar.
     NotInGrammar = 6,
@@ -99,7 +99,7 @@ impl Refusal {
                 "The address is not usable: the attribute goes up to 999, value and subvalue up to 32,768, a subvalue needs a value before it, and the item-id has neither."
             }
             Refusal::CodeTooLong => {
-                "The code string is too long: all its codes together, marks included, have at most 512 bytes."
+                "The code string is too long: with the marks between its codes it has at most 512 bytes, and so have an A code and its F text."
             }
             Refusal::NotInGrammar => {
                 "One of the codes is not written as the grammar asks, so nobody can say what it should do."

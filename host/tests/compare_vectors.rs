@@ -67,3 +67,9 @@ fn halves() {
 fn blanks() {
     vectors::run("L3.tsv", &PROVED);
 }
+
+/// All calls, with A codes shown as F.
+#[test]
+fn algebra() {
+    vectors::run("L4.tsv", &PROVED);
+}

@@ -16,7 +16,7 @@ use sundewfrill_host::outcome::Address;
 use sundewfrill_host::paper;
 
 /// How many calls and inputs of the program a usual run has in all.
-const CASES: u64 = 340_000;
+const CASES: u64 = 380_000;
 
 #[test]
 fn examples() {
@@ -37,7 +37,7 @@ fn find() {
 #[test]
 fn replace() {
     let mut buffers = Buffers::default();
-    let coverage = cases(CASES, "replace", 2, 18, |rng, coverage| {
+    let coverage = cases(CASES, "replace", 2, 17, |rng, coverage| {
         let call = generator::replace(rng, &mut buffers);
         let outcome = call.run(&PAPER, &mut buffers);
         laws::replace(&call, &outcome, &buffers);
@@ -56,7 +56,7 @@ fn replace() {
 
 #[test]
 fn check() {
-    let coverage = cases(CASES, "check", 3, 17, |rng, coverage| {
+    let coverage = cases(CASES, "check", 3, 16, |rng, coverage| {
         let call = generator::check(rng);
         let outcome = call.run(&PAPER);
         laws::check(&call, &outcome);
@@ -68,7 +68,7 @@ fn check() {
 #[test]
 fn convert() {
     let mut buffers = Buffers::default();
-    let coverage = cases(CASES, "convert", 4, 36, |rng, coverage| {
+    let coverage = cases(CASES, "convert", 4, 33, |rng, coverage| {
         let mut call = generator::convert(rng, &mut buffers);
         let outcome = call.run(&PAPER, &mut buffers);
         laws::convert(&call, &outcome, &buffers);
@@ -89,7 +89,7 @@ fn convert() {
 
 #[test]
 fn ceiling() {
-    let coverage = cases(CASES, "ceiling", 8, 10, |rng, coverage| {
+    let coverage = cases(CASES, "ceiling", 8, 9, |rng, coverage| {
         let call = generator::ceiling(rng);
         let outcome = call.run(&PAPER);
         laws::ceiling(&call, &outcome, &PAPER);
@@ -107,6 +107,24 @@ fn date() {
         coverage.date(&call, &outcome);
     });
     coverage.require_of_date();
+}
+
+/// A codes, the F texts that show them, and the values of their expressions.
+#[test]
+fn algebra() {
+    let mut buffers = Buffers::default();
+    let coverage = cases(CASES, "algebra", 9, 6, |rng, coverage| {
+        let call = generator::algebra(rng, &mut buffers);
+        let outcome = call.run(&PAPER, &mut buffers);
+        let text = laws::algebra::all(&call, &outcome, &PAPER, &mut buffers);
+        coverage.algebra(&call, &outcome);
+        if let Some(text) = text {
+            let by_text = generator::conversion_by_text(rng, &text);
+            let refusal = laws::algebra::value(&call.code, &by_text, &PAPER, &mut buffers);
+            coverage.values(&call.code, &by_text, refusal);
+        }
+    });
+    coverage.require_of_algebra();
 }
 
 #[test]

@@ -59,3 +59,9 @@ fn halves() {
 fn blanks() {
     vectors::run("L3.tsv", &PAPER);
 }
+
+/// All calls, with A codes shown as F.
+#[test]
+fn algebra() {
+    vectors::run("L4.tsv", &PAPER);
+}

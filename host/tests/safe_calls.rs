@@ -3,8 +3,8 @@
 //! Needs the archive.
 
 use sundewfrill_host::{
-    ceiling, check, convert, find, replace, typed_date, Address, BadCode, Converted, Refusal,
-    StepCounts, Stopped, SCRATCH_LENGTH,
+    algebra, ceiling, check, convert, find, replace, typed_date, Address, BadCode, Converted,
+    Refusal, StepCounts, Stopped, SCRATCH_LENGTH,
 };
 
 const RECORD: &[u8] = b"K1\xfe10\xfd20\xfe3";
@@ -140,4 +140,31 @@ fn typed_dates() {
         Err(Refusal::NotConvertible)
     );
     assert_eq!(typed_date(b"L", b"1 JAN 1967"), Err(Refusal::NotInGrammar));
+}
+
+#[test]
+fn algebra_shown() {
+    let mut output = [7; 14];
+    let shown = algebra(b"A1+2*3", &mut output);
+    assert_eq!(shown, Ok(b"F;1;2;+;3;*".as_slice()));
+    assert_eq!(output, *b"F;1;2;+;3;*\0\0\0");
+    for (code, refusal) in [
+        (b"A1+2*(3-4)".to_vec(), Refusal::OutputTooShort),
+        (b"A1+2*".to_vec(), Refusal::NotInGrammar),
+        (vec![b'A'; 513], Refusal::CodeTooLong),
+    ] {
+        output.fill(7);
+        assert_eq!(algebra(&code, &mut output), Err(refusal));
+        assert_eq!(output, [0; 14]);
+    }
+}
+
+/// What is shown can be converted by.
+#[test]
+fn algebra_converted() {
+    let (mut text, mut output, mut scratch) = ([0; 512], [0; 8], [0; SCRATCH_LENGTH]);
+    let code = algebra(b"A1*2R", &mut text).unwrap();
+    let at = Address::new(1, 0, 0);
+    let whole = convert(RECORD, code, at, 62, &mut output, &mut scratch).unwrap();
+    assert_eq!(whole.answer, b"30\xfd60");
 }

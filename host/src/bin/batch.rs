@@ -12,6 +12,7 @@
 //! | `convert` record code a v s budget output-length scratch-length | refusal steps length answer |
 //! | `ceilingof` record code a v s | the ceiling, 0 where it is refused |
 //! | `date` code text | refusal day |
+//! | `acode` code output-length | refusal length F-text |
 //!
 //! The buffers are dirty before each call; should the library not leave them as
 //! document 01 asks, or should a line not be readable, the program says so on
@@ -80,6 +81,7 @@ fn answer(line: &str) -> Result<String, Fault> {
         "convert" => convert(line),
         "ceilingof" => ceiling(line),
         "date" => date(line),
+        "acode" => algebra(line),
         _ => Err(Fault::Unreadable("no call has this name")),
     }
 }
@@ -163,6 +165,20 @@ fn date(mut line: Line) -> Result<String, Fault> {
     line.end()?;
     let outcome = ffi::typed_date(&code, &text);
     Ok(format!("{} {}", outcome.refusal, outcome.day()))
+}
+
+fn algebra(mut line: Line) -> Result<String, Fault> {
+    let code = line.bytes()?;
+    let mut output = line.buffer()?;
+    line.end()?;
+    let outcome = ffi::algebra(&code, &mut output);
+    let text = settled(&output, outcome.length)?;
+    Ok(format!(
+        "{} {} {}",
+        outcome.refusal,
+        outcome.length,
+        fields::write(text)
+    ))
 }
 
 /// A part of the record, if it lies in it.

@@ -13,7 +13,7 @@ use std::process::ExitCode;
 use std::time::{Duration, Instant};
 
 use sundewfrill_host::outcome::{
-    Address, Ceiling, Check, Convert, Find, Implementation, Replace, TypedDate,
+    Address, Algebra, Ceiling, Check, Convert, Find, Implementation, Replace, TypedDate,
 };
 use sundewfrill_host::{ffi, paper, SCRATCH_LENGTH};
 
@@ -67,6 +67,10 @@ enum Call {
         code: Vec<u8>,
         text: Vec<u8>,
     },
+    Algebra {
+        code: Vec<u8>,
+        output_length: usize,
+    },
 }
 
 /// What came of a call.
@@ -78,6 +82,7 @@ enum Outcome {
     Convert(Convert),
     Ceiling(Ceiling),
     TypedDate(TypedDate),
+    Algebra(Algebra),
 }
 
 impl Outcome {
@@ -89,6 +94,7 @@ impl Outcome {
             Outcome::Convert(outcome) => outcome.refusal,
             Outcome::Ceiling(outcome) => outcome.refusal,
             Outcome::TypedDate(outcome) => outcome.refusal,
+            Outcome::Algebra(outcome) => outcome.refusal,
         }
     }
 
@@ -112,7 +118,9 @@ impl Buffers {
     /// Dirty buffers of the lengths that the call takes.
     fn for_call(call: &Call) -> Self {
         let (output, scratch) = match call {
-            Call::Replace { output_length, .. } => (*output_length, 0),
+            Call::Replace { output_length, .. } | Call::Algebra { output_length, .. } => {
+                (*output_length, 0)
+            }
             Call::Convert { output_length, .. } => (*output_length, SCRATCH_LENGTH),
             _ => (0, 0),
         };
@@ -155,6 +163,9 @@ impl Call {
             }
             Call::TypedDate { code, text } => {
                 Outcome::TypedDate((side.typed_date)(black_box(code), black_box(text)))
+            }
+            Call::Algebra { code, .. } => {
+                Outcome::Algebra((side.algebra)(black_box(code), &mut buffers.output))
             }
         }
     }
@@ -286,6 +297,7 @@ fn workloads() -> Vec<Workload> {
     workloads.extend(long_elements());
     workloads.extend(pattern_codes());
     workloads.extend(checks());
+    workloads.extend(expressions());
     workloads.extend(at_end());
     workloads.extend(empty_values());
     workloads
@@ -422,6 +434,31 @@ fn checks() -> Vec<Workload> {
             },
         },
     ]
+}
+
+/// A codes of 512 bytes to show. Parentheses and `R(x,y)` are longer in the A code than
+/// in the F text, which must not pass 512 bytes.
+fn expressions() -> Vec<Workload> {
+    let many = [b"A1".to_vec(), b"+((2R*'7'))-R(3,(4))[1,('2')]".repeat(16)].concat();
+    let deepest = [[b'('; 255].as_slice(), b"1", &[b')'; 255]].concat();
+    vec![
+        Workload {
+            name: "showing an A code of 512 bytes",
+            call: algebra(padded(many, b":'", b"'")),
+        },
+        Workload {
+            name: "showing an A code of 255 pairs of parentheses",
+            call: algebra([b"A".as_slice(), &deepest].concat()),
+        },
+    ]
+}
+
+/// Showing an A code in an output that is long enough for any.
+fn algebra(code: Vec<u8>) -> Call {
+    Call::Algebra {
+        code,
+        output_length: paper::CODE_LENGTH,
+    }
 }
 
 /// The string and then a literal that brings it to 512 bytes.

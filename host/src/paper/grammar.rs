@@ -318,7 +318,8 @@ fn elm<'c>(reader: &mut Reader<'c>) -> Option<Elm<'c>> {
     })
 }
 
-fn load(reader: &mut Reader) -> Option<Load> {
+/// Reads an attribute load: 1 to 3 digits, then nothing, `R` or `RR`.
+pub(super) fn load(reader: &mut Reader) -> Option<Load> {
     let attribute = reader.number(3)?;
     let which = match (reader.eat(b'R'), reader.eat(b'R')) {
         (false, _) => Which::Same,
@@ -328,7 +329,8 @@ fn load(reader: &mut Reader) -> Option<Load> {
     Some(Load { attribute, which })
 }
 
-fn literal<'c>(reader: &mut Reader<'c>) -> Option<&'c [u8]> {
+/// Reads a literal and gives its bytes without the quotes.
+pub(super) fn literal<'c>(reader: &mut Reader<'c>) -> Option<&'c [u8]> {
     let quote = reader.next()?;
     let length = reader.rest.iter().position(|&byte| byte == quote)?;
     let literal = &reader.rest[..length];
@@ -548,22 +550,23 @@ fn is_date_separator(byte: u8) -> bool {
 
 /// What is still to be read of a code.
 #[derive(Clone, Copy)]
-struct Reader<'c> {
-    rest: &'c [u8],
+pub(super) struct Reader<'c> {
+    /// The bytes that were not read yet.
+    pub(super) rest: &'c [u8],
 }
 
 impl Reader<'_> {
-    fn at_end(&self) -> bool {
+    pub(super) fn at_end(&self) -> bool {
         self.rest.is_empty()
     }
 
     /// The next byte, left where it is.
-    fn peek(&self) -> Option<u8> {
+    pub(super) fn peek(&self) -> Option<u8> {
         self.rest.first().copied()
     }
 
     /// The next byte, whatever it is.
-    fn next(&mut self) -> Option<u8> {
+    pub(super) fn next(&mut self) -> Option<u8> {
         self.eat_if(|_| true)
     }
 
@@ -577,12 +580,12 @@ impl Reader<'_> {
     }
 
     /// Reads this byte, if it comes next.
-    fn eat(&mut self, byte: u8) -> bool {
+    pub(super) fn eat(&mut self, byte: u8) -> bool {
         self.eat_if(|next| next == byte).is_some()
     }
 
     /// Reads these bytes, if they come next.
-    fn eat_all(&mut self, bytes: &[u8]) -> bool {
+    pub(super) fn eat_all(&mut self, bytes: &[u8]) -> bool {
         let rest = self.rest.strip_prefix(bytes);
         self.rest = rest.unwrap_or(self.rest);
         rest.is_some()

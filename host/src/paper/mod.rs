@@ -1,20 +1,22 @@
-//! Document 01 with requests L1 to L3 of document 02, the P code, the rounding of
-//! halves and blanks round numbers, written down once more, from these two, the two
-//! standards and the readings of `docs/DECISIONS.md` alone.
+//! Document 01 with requests L1 to L4 of document 02, the P code, the rounding of
+//! halves, blanks round numbers and the A code, written down once more, from these
+//! two, the two standards and the readings of `docs/DECISIONS.md` alone.
 //!
 //! Nothing here comes from the proved library or knows how it works: the two
 //! are compared on all they give, every byte of output and scratch included.
 //! The rules are the paper's; the comments say only how they are carried out.
 //!
-//! The six calls and the program are in this file. Below it:
+//! The seven calls and the program are in this file. Below it:
 //!
 //! - `record`: marks, addresses, finding and replacing;
 //! - [`grammar`]: from a code string to its codes;
 //! - `number`, `calendar`, `mask`, `text`, `pattern`: what single codes do;
 //! - `stack`: the entries of an F code;
 //! - `run`: elements through codes, with the steps counted;
+//! - [`mod@algebra`]: expressions, their F text, and their value without a stack;
 //! - `program`: from standard input to standard output.
 
+pub mod algebra;
 mod calendar;
 pub mod grammar;
 mod mask;
@@ -27,7 +29,9 @@ mod run;
 mod stack;
 mod text;
 
-use crate::outcome::{Address, Ceiling, Check, Convert, Find, Implementation, Replace, TypedDate};
+use crate::outcome::{
+    Address, Algebra, Ceiling, Check, Convert, Find, Implementation, Replace, TypedDate,
+};
 use crate::refusal::Refusal;
 
 pub use program::{program, program_with};
@@ -60,7 +64,7 @@ pub const BUFFER_MARK: u8 = 251;
 /// The least of the five marks; all bytes from here on are marks.
 pub const LEAST_MARK: u8 = BUFFER_MARK;
 
-/// The six calls, to be held against another implementation's.
+/// The seven calls, to be held against another implementation's.
 pub const IMPLEMENTATION: Implementation = Implementation {
     name: "the independent implementation",
     find,
@@ -69,6 +73,7 @@ pub const IMPLEMENTATION: Implementation = Implementation {
     convert,
     ceiling,
     typed_date,
+    algebra,
 };
 
 /// Finds the place `at` in `record`.
@@ -158,6 +163,13 @@ pub fn typed_date(code: &[u8], text: &[u8]) -> TypedDate {
             ..TypedDate::default()
         },
     }
+}
+
+/// Writes the F text of the A code `code` to `output`.
+pub fn algebra(code: &[u8], output: &mut [u8]) -> Algebra {
+    let result = algebra::show(code, output);
+    let (refusal, length) = settle(result, output);
+    Algebra { refusal, length }
 }
 
 /// Leaves `output` as every call must: the answer and then zeros, or zeros

@@ -1,6 +1,7 @@
 //! A conversion: elements through codes, with the steps counted.
 
 use std::cmp::Ordering;
+use std::ops::Range;
 
 use super::grammar::{self, Code, Conversion, Elm, Load, Operator, Relation, Which};
 use super::number::{self, POWERS_OF_TEN};
@@ -150,7 +151,7 @@ impl Run<'_> {
     fn elm(&mut self, elm: &Elm, element: &Element) -> Result<usize, Refusal> {
         match *elm {
             Elm::Load(load) => {
-                let bytes = loaded(self.record, load, element);
+                let bytes = loaded(self.record, load, element.v, element.s);
                 if bytes.len() > ENTRY_LENGTH {
                     return Err(Refusal::ElementTooLong);
                 }
@@ -211,32 +212,37 @@ impl Run<'_> {
 
     /// `[]`: bytes of the third entry, start in the second, length in the top.
     fn extract(&mut self) -> Result<usize, Refusal> {
-        let start = number::read_or_zero(self.stack.entry(2))?.max(1);
-        let wanted = number::read_or_zero(self.stack.entry(1))?.max(0);
-        let length = self.stack.entry(3).len();
-        let from = length.min(start as usize - 1);
-        let to = length.min(from + wanted as usize);
+        let whole = self.stack.entry(3).len();
+        let part = extracted(whole, self.stack.entry(2), self.stack.entry(1))?;
         let taken = self.stack.top_length(3);
         let put = self.stack.replace(3, |room| {
-            room.copy_within(from..to, 0);
-            Ok(to - from)
+            room.copy_within(part.clone(), 0);
+            Ok(part.len())
         })?;
         Ok(1 + taken + put)
     }
 }
 
-/// The part of the record that a load names, for an element at its position.
-fn loaded<'r>(record: &'r [u8], load: Load, element: &Element) -> &'r [u8] {
+/// The part of the record that a load names at the position (v, s).
+pub fn loaded(record: &[u8], load: Load, v: u64, s: u64) -> &[u8] {
     let (v, s) = match load.which {
-        Which::Same => (element.v, element.s),
-        Which::FirstValue => (1, element.s),
+        Which::Same => (v, s),
+        Which::FirstValue => (1, s),
         Which::First => (1, 1),
     };
     record::load(record, u64::from(load.attribute), v, s)
 }
 
+/// Which of `whole` bytes `[]` takes, for a start and a length as texts.
+pub fn extracted(whole: usize, start: &[u8], length: &[u8]) -> Result<Range<usize>, Refusal> {
+    let start = number::read_or_zero(start)?.max(1);
+    let length = number::read_or_zero(length)?.max(0);
+    let from = whole.min(start as usize - 1);
+    Ok(from..whole.min(from + length as usize))
+}
+
 /// The result of an operator on the second entry and the top one.
-fn arithmetic(operator: Operator, second: &[u8], top: &[u8]) -> Result<i64, Refusal> {
+pub fn arithmetic(operator: Operator, second: &[u8], top: &[u8]) -> Result<i64, Refusal> {
     let second = number::read_or_zero(second)?;
     let top = number::read_or_zero(top)?;
     match operator {
@@ -253,14 +259,15 @@ fn arithmetic(operator: Operator, second: &[u8], top: &[u8]) -> Result<i64, Refu
 
 /// The second entry against the top one: as numbers when both have numeric
 /// form, else by bytes.
-fn compare(second: &[u8], top: &[u8]) -> Result<Ordering, Refusal> {
+pub fn compare(second: &[u8], top: &[u8]) -> Result<Ordering, Refusal> {
     match (number::read(second), number::read(top)) {
         (Ok(None), _) | (_, Ok(None)) => Ok(second.cmp(top)),
         (one, other) => Ok(one?.cmp(&other?)),
     }
 }
 
-fn holds(relation: Relation, order: Ordering) -> bool {
+/// Whether a relation holds for two that stand in this order.
+pub fn holds(relation: Relation, order: Ordering) -> bool {
     match relation {
         Relation::Equal => order.is_eq(),
         Relation::Unequal => order.is_ne(),

@@ -1,9 +1,9 @@
-//! The six calls with their arguments, and the implementations that take them.
+//! The seven calls with their arguments, and the implementations that take them.
 
 use std::fmt;
 
 use sundewfrill_host::outcome::{
-    Address, Ceiling, Check, Convert, Find, Implementation, Replace, TypedDate,
+    Address, Algebra, Ceiling, Check, Convert, Find, Implementation, Replace, TypedDate,
 };
 use sundewfrill_host::{fields, paper, SCRATCH_LENGTH};
 
@@ -138,6 +138,21 @@ impl DateCall {
     }
 }
 
+/// A call of showing an A code as F.
+#[derive(Clone, Debug, Default)]
+pub struct AlgebraCall {
+    pub code: Vec<u8>,
+    pub output_length: usize,
+}
+
+impl AlgebraCall {
+    /// Carries out the call on dirty buffers; the output stays in them.
+    pub fn run(&self, implementation: &Implementation, buffers: &mut Buffers) -> Algebra {
+        let output = buffers.output.lend(self.output_length);
+        (implementation.algebra)(&self.code, output)
+    }
+}
+
 // Each call is shown as the batch program reads it.
 
 impl fmt::Display for FindCall {
@@ -193,5 +208,12 @@ impl fmt::Display for DateCall {
             fields::write(&self.code),
             fields::write(&self.text)
         )
+    }
+}
+
+impl fmt::Display for AlgebraCall {
+    fn fmt(&self, f: &mut fmt::Formatter<'_>) -> fmt::Result {
+        let code = fields::write(&self.code);
+        write!(f, "acode\t{code}\t{}", self.output_length)
     }
 }

@@ -1,5 +1,7 @@
-//! The examples of document 01 and of requests L1 to L3 of document 02, and the
+//! The examples of document 01 and of requests L1 to L4 of document 02, and the
 //! points at which their readings part.
+
+mod algebra;
 
 use sundewfrill_host::outcome::{Address, Ceiling, Check, Convert, Implementation, TypedDate};
 use sundewfrill_host::{paper, SCRATCH_LENGTH};
@@ -70,6 +72,7 @@ pub fn run(implementation: &Implementation) {
     checking(implementation);
     checking_patterns(implementation);
     typed_dates(implementation);
+    algebra::run(implementation);
 }
 
 /// Steps and budget.

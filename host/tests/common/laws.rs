@@ -1,5 +1,7 @@
 //! What documents 01 and 02 promise of every call, whoever carries it out.
 
+pub mod algebra;
+
 use std::fmt::Display;
 use std::ops::RangeInclusive;
 

@@ -6,6 +6,7 @@ pub mod calls;
 pub mod cases;
 pub mod coverage;
 pub mod examples;
+pub mod expressions;
 pub mod generator;
 pub mod laws;
 pub mod masks;

@@ -89,7 +89,7 @@ fn reads_numbers(elm: &Elm) -> bool {
 }
 
 /// Where a load finds its element for the one element at this address.
-fn place(load: Load, at: Address) -> Address {
+pub fn place(load: Load, at: Address) -> Address {
     // A place named only in part counts from 1.
     let (v, s) = (at.v.max(1), at.s.max(1));
     let attribute = u64::from(load.attribute);

@@ -5,7 +5,7 @@ use std::io::{self, Write};
 use std::time::{Duration, Instant};
 
 /// How many generated calls a usual run has in all.
-pub const USUAL_CASES: u64 = 1_100_000;
+pub const USUAL_CASES: u64 = 1_250_000;
 /// The seed of a usual run.
 pub const USUAL_SEED: u64 = 0x5eed_1987;
 

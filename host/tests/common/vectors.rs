@@ -8,7 +8,9 @@ use sundewfrill_host::outcome::{Address, Check, Convert, Implementation};
 use sundewfrill_host::{fields, paper};
 
 use super::buffers::{all_zero, Buffers};
-use super::calls::{CeilingCall, CheckCall, ConvertCall, DateCall, FindCall, ReplaceCall};
+use super::calls::{
+    AlgebraCall, CeilingCall, CheckCall, ConvertCall, DateCall, FindCall, ReplaceCall,
+};
 use super::laws;
 
 /// A stored file.
@@ -21,7 +23,7 @@ struct File {
 }
 
 /// All stored files.
-const FILES: [File; 10] = [
+const FILES: [File; 11] = [
     file("find.tsv", Some("find"), 1_500),
     file("replace.tsv", Some("replace"), 1_500),
     file("check.tsv", Some("check"), 2_500),
@@ -32,6 +34,7 @@ const FILES: [File; 10] = [
     file("L1.tsv", None, 1_216),
     file("L2.tsv", None, 1_314),
     file("L3.tsv", None, 1_186),
+    file("L4.tsv", None, 1_359),
 ];
 
 const fn file(name: &'static str, call: Option<&'static str>, rows: usize) -> File {
@@ -124,6 +127,7 @@ pub fn run(name: &str, implementation: &Implementation) {
         "convert" => convert(row, implementation, &mut buffers),
         "ceilingof" => ceiling(row, implementation),
         "date" => date(row, implementation),
+        "acode" => algebra(row, implementation, &mut buffers),
         "program" => program(row, |input| {
             paper::program_with(input, implementation.convert)
         }),
@@ -247,6 +251,26 @@ fn date(row: &mut Row, implementation: &Implementation) -> Option<String> {
     let expected = (row.number(), row.number());
     let outcome = call.run(implementation);
     unlike((outcome.refusal, outcome.day()), expected)
+}
+
+/// The output is dirty before the call.
+fn algebra(
+    row: &mut Row,
+    implementation: &Implementation,
+    buffers: &mut Buffers,
+) -> Option<String> {
+    let call = AlgebraCall {
+        code: row.bytes(),
+        output_length: row.number(),
+    };
+    let expected = (row.number(), row.number(), row.bytes(), true);
+    let outcome = call.run(implementation, buffers);
+    let (text, behind) = buffers.output.after().split_at(outcome.length as usize);
+    let clear = all_zero(behind);
+    unlike(
+        (outcome.refusal, outcome.length, text.to_vec(), clear),
+        expected,
+    )
 }
 
 fn program(row: &mut Row, by: impl FnOnce(&[u8]) -> Vec<u8>) -> Option<String> {

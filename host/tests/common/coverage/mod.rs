@@ -1,12 +1,15 @@
 //! What generated calls have reached: every refusal, every code letter, every
 //! elm, every mask option, every kind of test, every limit on both sides, the
-//! halves at which masks round, and blanks wherever a number is read.
+//! halves at which masks round, blanks wherever a number is read, and every
+//! operator and operand of an A code.
 
+mod algebra;
 mod blanks;
 mod limits;
 mod masks;
 mod patterns;
 mod steps;
+mod values;
 
 use std::collections::BTreeSet;
 

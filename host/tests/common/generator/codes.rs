@@ -143,7 +143,8 @@ fn operand(rng: &mut Rng) -> StackElm {
     (text, 0, 1)
 }
 
-fn load(rng: &mut Rng) -> Vec<u8> {
+/// An attribute load.
+pub fn load(rng: &mut Rng) -> Vec<u8> {
     let attribute = match rng.below(20) {
         0 => "999".to_owned(),
         1 => format!("{:03}", rng.below(5)),
@@ -154,7 +155,8 @@ fn load(rng: &mut Rng) -> Vec<u8> {
     format!("{attribute}{suffix}").into_bytes()
 }
 
-fn literal(rng: &mut Rng) -> Vec<u8> {
+/// A literal, in either quote.
+pub fn literal(rng: &mut Rng) -> Vec<u8> {
     let quote = *rng.pick(b"'\"");
     let mut content = match rng.below(12) {
         0 => Vec::new(),

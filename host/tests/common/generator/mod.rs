@@ -4,6 +4,7 @@
 //! get far; then some bytes are changed, some lengths put on a limit, some
 //! buffers made too short. `coverage` says whether everything was reached.
 
+mod algebra;
 mod blanks;
 mod codes;
 mod dates;
@@ -16,7 +17,10 @@ use sundewfrill_host::outcome::Address;
 use sundewfrill_host::{paper, Refusal, SCRATCH_LENGTH};
 
 use super::buffers::Buffers;
-use super::calls::{CeilingCall, CheckCall, ConvertCall, DateCall, FindCall, ReplaceCall, PAPER};
+use super::calls::{
+    AlgebraCall, CeilingCall, CheckCall, ConvertCall, DateCall, FindCall, ReplaceCall, PAPER,
+};
+pub use algebra::NEARLY_SHOWN;
 pub use blanks::NO_BLANKS;
 pub use elements::Kind;
 pub use patterns::NEAR_MISSES;
@@ -229,6 +233,23 @@ fn vast_run(rng: &mut Rng) -> (Vec<u8>, Vec<u8>, Address) {
 /// A call of reading a typed date.
 pub fn date(rng: &mut Rng) -> DateCall {
     dates::call(rng)
+}
+
+/// A call of showing an A code as F. The output is often just long enough, or just
+/// not.
+pub fn algebra(rng: &mut Rng, buffers: &mut Buffers) -> AlgebraCall {
+    let mut call = AlgebraCall {
+        code: algebra::code(rng),
+        output_length: paper::CODE_LENGTH,
+    };
+    let length = call.run(&PAPER, buffers).length as usize;
+    call.output_length = output_length(rng, length);
+    call
+}
+
+/// A conversion by an F text that shows an A code, with budget and scratch enough.
+pub fn conversion_by_text(rng: &mut Rng, text: &[u8]) -> ConvertCall {
+    algebra::conversion(rng, text)
 }
 
 /// Three lines for the program, now and then a damaged or a missing one.
