@@ -21,7 +21,7 @@ pub enum Refusal {
     BadAddress = 4,
     /// 5: the code string, an A code or its F text is over 512 bytes.
     CodeTooLong = 5,
-    /// 6: a code is not in the grammar.
+    /// 6: a code is not in the grammar, or an A code is not an expression.
     NotInGrammar = 6,
     /// 7: an F code takes more entries than are there, or would hold 17.
     StackMisused = 7,
@@ -102,7 +102,7 @@ impl Refusal {
                 "The code string is too long: with the marks between its codes it has at most 512 bytes, and so have an A code and its F text."
             }
             Refusal::NotInGrammar => {
-                "One of the codes is not written as the grammar asks, so nobody can say what it should do."
+                "One of the codes is not written as the grammar asks, or an A code is not an expression, so nobody can say what it should do."
             }
             Refusal::StackMisused => {
                 "An F code takes more entries from its stack than are there, or would put a seventeenth on it: the stack has room for 16."

@@ -64,7 +64,7 @@ told (valued item a n v s) =
     let record-of = map marked (bytes item) in
     answer (understood (bytes a) >>= λ e. values entry-most record-of e (elements record-of n v s))
 
--- An example and what document 02 says of it.
+-- An example, and what is expected of it.
 record Row : Type 0 where
   example : Example
   says : String
@@ -98,7 +98,7 @@ texts =
     -- the first R is the attribute's
     ∷ shows "A1R-R(1,2)" "0 F;1R;1;2;R;-"
     ∷ shows "A1=2=3" "0 F;1;2;=;3;="
-    -- "`>=` becomes `]` and `<=` becomes `[`"
+    -- `>=` becomes `]` and `<=` becomes `[`
     ∷ shows "A1>=2" "0 F;1;2;]"
     ∷ shows "A1<=2" "0 F;1;2;["
     ∷ shows "A1<2>3#4" "0 F;1;2;<;3;>;4;#"

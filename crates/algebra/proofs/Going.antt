@@ -12,7 +12,7 @@ use Rattle.algebra.specs.Laying.{Laid, Lays, laid, unread}
 use Rattle.algebra.specs.declared.Shown.{Shown}
 use Rattle.algebra.proofs.Laying.{lays-then, lays-unread, lays-upto}
 
--- A thing read, and any number of others behind it, one turn of a loop for each. `more` is what the definition reads from here, with fuel left.
+-- `more` is what the definition reads from here, with fuel left.
 pub record Going {A : Type 0} (elms : A → List Spelt) (s : Bytes) (at : ℕ) (t : Bytes) (l : ℕ) (whole : Option (A × Bytes)) (more : ℕ → A → paper.Reader A)
     (r : Shown) (u : Bytes) : Type 0 where
   pub so-far : Option (A × Bytes)

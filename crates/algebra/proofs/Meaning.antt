@@ -17,7 +17,8 @@ use Rattle.paper.specs.Records.{Part, place}
 use Rattle.paper.specs.Codes.{Code}
 use Rattle.paper.specs.Checking.{all-stacked, accepted, check, checked-codes}
 use Rattle.paper.specs.Steps.{Setting, done, top-entry, code-run, codes-run, element-run}
-use Rattle.paper.specs.Converting.{Element, from-one, elements-in, elements-of, elements, elements-run, result, unbudgeted, lawful-place, lawful-code, ready, run, fitted, finished}
+use Rattle.paper.specs.Converting.{Element, from-one, elements-in, elements-of, elements}
+use Rattle.paper.specs.Converting.{elements-run, result, unbudgeted, lawful-place, lawful-code, ready, run, fitted, finished}
 use Rattle.paper.specs.Converting.{carried-out, convert-freely}
 use Rattle.paper.proofs.Predicates.{Holds, holds, refuses, held-by, holds-after, holds-unless, All, none-of, and-all}
 use Rattle.paper.proofs.Refusing.{never-given, passed}

@@ -19,7 +19,7 @@ operation text o = gives (record { does = o; in-F = text })
 abbrev pub relation : Bytes → Relation → Reader Operator
 relation text r = operation text (Binary.relate r)
 
--- `<` and `>`, and the `=` behind them: "`>=` becomes `]` and `<=` becomes `[`"
+-- `<` and `>`, and the `=` behind them: `>=` becomes `]` and `<=` becomes `[`
 abbrev pub or-equal : Reader Operator → Reader Operator → Reader Operator
 or-equal with-it without = ahead (eqb (ch "=")) (λ _. with-it) without
 

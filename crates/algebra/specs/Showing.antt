@@ -26,7 +26,7 @@ understood code = do
 unfoldable pub spelt-out : Bytes → Res Bytes
 spelt-out code = understood code >>= λ e. given (f-text e)
 
--- ".. 5 if the F text would pass 512 bytes, 7 as the F text earns it .."
+-- ".. 5 if the F text would pass 512 bytes, 7 as the F text earns it ..": the check tries 5 too, and it stands here as the paper has it
 unfoldable pub lawful-text : Bytes → Res Bytes
 lawful-text text = do
   refuse over-long-code unless leb (length text) code-most

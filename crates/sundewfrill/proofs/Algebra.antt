@@ -14,7 +14,7 @@ use Rattle.paper.specs.Checking.{check, report}
 use Rattle.paper.specs.Converting.{elements, lawful-place, fitted, convert-freely, output-after}
 use Rattle.paper.proofs.Predicates.{All}
 use Rattle.records.proofs.Refusing.{Told, fine, told, told-record, told-address}
-use Rattle.algebra.specs.Expressions.{Expression, value}
+use Rattle.algebra.specs.Expressions.{Expression, value, f-text as f-text-of}
 use Rattle.algebra.specs.Showing.{understood, show, values}
 use Rattle.algebra.proofs.Meaning.{Within, Shown, Refusal, shown-code, shown-means, show-refusal, show-answered, value-at}
 use Rattle.sundewfrill.specs.Numbers.{answer-length}
@@ -70,6 +70,10 @@ module _ (κs : Lfts 3) (args : _) (r : _) (exits : _) (post : algebra-call.Post
     pub algebra-understood : understood code ≡ given formula
     algebra-understood = showed .is-read
 
+    -- and what was written is its F text
+    pub algebra-text : f-text ≡ f-text-of formula
+    algebra-text = showed .in-F
+
     -- beside what `sundewfrill_check` gave on that text: it is accepted
     pub algebra-accepted : (κs′ : Lfts 6) (args′ : _) (r′ : _) (exits′ : _) → check-call.Post κs′ args′ r′ exits′ → args′ .0 .now ≡ f-text → r′ ≡ 0
     unfolding report
@@ -78,8 +82,8 @@ module _ (κs : Lfts 3) (args : _) (r : _) (exits : _) (post : algebra-call.Post
     -- beside what `sundewfrill_convert` gave on that text, where `sundewfrill_find` returned 0 on the same record and address
     module _ (κs′ : Lfts 5) (args′ : _) (r′ : _) (exits′ : _) (converted : convert-call.Post κs′ args′ r′ exits′) (same-text : args′ .1 .0 .now ≡ f-text)
         (κs″ : Lfts 4) (args″ : _) (r″ : _) (exits″ : _) (found : find-call.Post κs″ args″ r″ exits″) (same-item : args″ .0 .now ≡ args′ .0 .now)
-        (same-a : args″ .1 .0 ≡ args′ .1 .1 .1 .1 .0) (same-v : args″ .1 .1 .0 ≡ args′ .1 .1 .1 .1 .1 .0) (same-s : args″ .1 .1 .1 .0 ≡ args′ .1 .1 .1 .1 .1 .1 .0)
-        (accepted : r″ ≡ 0) where
+        (same-a : args″ .1 .0 ≡ args′ .1 .1 .1 .1 .0) (same-v : args″ .1 .1 .0 ≡ args′ .1 .1 .1 .1 .1 .0)
+        (same-s : args″ .1 .1 .1 .0 ≡ args′ .1 .1 .1 .1 .1 .1 .0) (accepted : r″ ≡ 0) where
       abbrev item : Bytes
       item = args′ .0 .now
 
