@@ -8,80 +8,30 @@
 
 mod common;
 
-use std::env;
-use std::io::Write;
-use std::process::{Command, Stdio};
-
 use common::buffers::Buffers;
-use common::coverage::Coverage;
-use common::generator::{self, Rng};
-use common::progress::{seed, Progress};
-use common::{laws, vectors};
+use common::cases::exactly;
+use common::programs::CONSOLE;
+use common::{generator, laws, vectors};
 use sundewfrill_host::paper;
-
-const COMMAND_VARIABLE: &str = "SUNDEWFRILL_PROGRAM";
-const USUAL_COMMAND: &str = concat!(env!("CARGO_MANIFEST_DIR"), "/../target/bin/console");
 
 /// How many inputs are generated: each is a process of its own.
 const CASES: u64 = 1_000;
 
-/// What the program writes for this input; on standard error it must write
-/// nothing.
-fn program(input: &[u8]) -> Vec<u8> {
-    let command = env::var(COMMAND_VARIABLE);
-    let words = match &command {
-        Ok(command) => command.split('\n').collect(),
-        Err(_) => vec![USUAL_COMMAND],
-    };
-    let mut child = Command::new(words[0])
-        .args(&words[1..])
-        .stdin(Stdio::piped())
-        .stdout(Stdio::piped())
-        .stderr(Stdio::piped())
-        .spawn()
-        .unwrap_or_else(|error| panic!("{words:?}: {error}"));
-    let mut stdin = child.stdin.take().expect("its input is ours");
-    // The program stops reading after 65,536 bytes: the rest may find no reader.
-    let _ = stdin.write_all(input);
-    drop(stdin);
-    let output = child.wait_with_output().expect("the program ends");
-    assert!(output.status.success(), "{words:?}: {}", output.status);
-    let said = String::from_utf8_lossy(&output.stderr);
-    assert_eq!(said, "", "standard error, for the input {input:02x?}");
-    output.stdout
-}
-
-/// What the program writes for this input, the independent one being of the
-/// same mind.
-fn compared(input: &[u8]) -> Vec<u8> {
-    let (expected, written) = (paper::program(input), program(input));
-    assert!(
-        expected == written,
-        "the input {input:02x?}\nindependent: {}\nprogram:     {}",
-        String::from_utf8_lossy(&expected),
-        String::from_utf8_lossy(&written)
-    );
-    written
-}
-
 #[test]
 fn vectors() {
-    vectors::programs("the program", program);
+    let rows = vectors::programs("the program", |input| CONSOLE.written(input));
+    assert_eq!(rows, 1_804);
 }
 
 #[test]
 fn generated() {
     let mut buffers = Buffers::default();
-    let mut coverage = Coverage::new(false);
-    let mut progress = Progress::new("program", CASES);
-    for number in 0..CASES {
-        let input = generator::program(&mut Rng::of_case(seed(), 6, number), &mut buffers);
-        let written = compared(&input);
+    let coverage = exactly(CASES, "program", 6, |rng, coverage| {
+        let input = generator::program(rng, &mut buffers);
+        let written = CONSOLE.compared(&input);
         laws::program(&input, &written);
         coverage.program(&input, &written);
-        progress.step(number);
-    }
-    progress.finish(&coverage.summary());
+    });
     coverage.require_of_program();
 }
 
@@ -99,7 +49,7 @@ fn end_of_input() {
         (b"L\n1,0,0", "0 2 0\n"),
         (b"", "4 0 \n"),
     ] {
-        assert_eq!(String::from_utf8_lossy(&compared(input)), expected);
+        CONSOLE.must_write(input, expected);
     }
 }
 
@@ -110,7 +60,7 @@ fn end_of_reading() {
     for (length, expected) in [(65_536, "5 0 \n"), (65_537, "4 0 \n")] {
         let mut input = vec![b'L'; length - 6];
         input.extend_from_slice(b"\n1,0,0");
-        assert_eq!(String::from_utf8_lossy(&compared(&input)), expected);
+        CONSOLE.must_write(&input, expected);
     }
 }
 
@@ -142,7 +92,7 @@ fn limits() {
 /// Fails unless attribute 1 converted is written like this.
 fn writes(code: &[u8], record: &[u8], expected: &str) {
     let input = [code, b"1,0,0", record].join(&b'\n');
-    assert_eq!(String::from_utf8_lossy(&compared(&input)), expected);
+    CONSOLE.must_write(&input, expected);
 }
 
 /// A code that makes a text of this length of so many empty values, their

@@ -6,7 +6,7 @@
 //! are compared on all they give, every byte of output and scratch included.
 //! The rules are the paper's; the comments say only how they are carried out.
 //!
-//! The seven calls and the program are in this file. Below it:
+//! The seven calls and the programs are in this file. Below it:
 //!
 //! - `record`: marks, addresses, finding and replacing;
 //! - [`grammar`]: from a code string to its codes;
@@ -34,7 +34,7 @@ use crate::outcome::{
 };
 use crate::refusal::Refusal;
 
-pub use program::{program, program_with};
+pub use program::{formula, program, program_with};
 
 /// The most bytes that a record has.
 pub const RECORD_LENGTH: usize = 32_768;

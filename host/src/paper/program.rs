@@ -1,11 +1,13 @@
-//! The program of document 01: from standard input to standard output.
+//! The program of document 01, and the one that shows A codes: from standard input to
+//! standard output.
 
-use super::{convert, ATTRIBUTE_MARK, RECORD_LENGTH, SUBVALUE_MARK, VALUE_MARK};
+use super::algebra::show;
+use super::{convert, ATTRIBUTE_MARK, CODE_LENGTH, RECORD_LENGTH, SUBVALUE_MARK, VALUE_MARK};
 use crate::outcome::{Address, Convert};
 use crate::refusal::Refusal;
 use crate::SCRATCH_LENGTH;
 
-/// How much of its input the program reads.
+/// How much of its input either program reads.
 const INPUT_LENGTH: usize = 65_536;
 /// The steps that a run may cost.
 const BUDGET: u64 = 1_000_000;
@@ -23,8 +25,7 @@ pub fn program_with(
     input: &[u8],
     converting: impl FnOnce(&[u8], &[u8], Address, u64, &mut [u8], &mut [u8]) -> Convert,
 ) -> Vec<u8> {
-    let input = &input[..input.len().min(INPUT_LENGTH)];
-    let mut lines = input.split(|&byte| byte == b'\n');
+    let mut lines = lines(input);
     let mut line = || lines.next().unwrap_or(&[]);
     let (code, address, record) = (line(), line(), line());
     let Some(at) = read_address(address) else {
@@ -35,6 +36,25 @@ pub fn program_with(
     let outcome = converting(record, code, at, BUDGET, &mut output, &mut scratch);
     let answer = &output[..outcome.length as usize];
     written(outcome.refusal, outcome.steps, answer)
+}
+
+/// What the program that shows A codes writes for this input: the refusal number of
+/// the A code on line 1, a blank and the F text. No F text is longer than its output,
+/// so none is refused for that.
+pub fn formula(input: &[u8]) -> Vec<u8> {
+    let code = lines(input).next().unwrap_or(&[]);
+    let mut output = [0; CODE_LENGTH];
+    let (refusal, text) = match show(code, &mut output) {
+        Ok(length) => (0, &output[..length]),
+        Err(refusal) => (refusal.number(), [].as_slice()),
+    };
+    [format!("{refusal} ").as_bytes(), text, b"\n"].concat()
+}
+
+/// The lines of an input, as far as it is read.
+fn lines(input: &[u8]) -> impl Iterator<Item = &[u8]> {
+    let read = &input[..input.len().min(INPUT_LENGTH)];
+    read.split(|&byte| byte == b'\n')
 }
 
 /// Three numbers of 1 to 5 digits parted by commas.

@@ -13,5 +13,6 @@ pub mod masks;
 pub mod numbers;
 pub mod operations;
 pub mod patterns;
+pub mod programs;
 pub mod progress;
 pub mod vectors;

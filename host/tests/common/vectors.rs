@@ -5,7 +5,7 @@ use std::path::Path;
 use std::str::FromStr;
 
 use sundewfrill_host::outcome::{Address, Check, Convert, Implementation};
-use sundewfrill_host::{fields, paper};
+use sundewfrill_host::{fields, paper, Refusal};
 
 use super::buffers::{all_zero, Buffers};
 use super::calls::{
@@ -135,17 +135,38 @@ pub fn run(name: &str, implementation: &Implementation) {
     });
 }
 
-/// The program's rows of all files, by whatever turns input into output.
-pub fn programs(name: &str, mut by: impl FnMut(&[u8]) -> Vec<u8>) {
+/// The program's rows of all files, by whatever turns input into output. Gives their
+/// number.
+pub fn programs(name: &str, mut by: impl FnMut(&[u8]) -> Vec<u8>) -> usize {
+    of_call("program", name, |row| Some(program(row, &mut by)))
+}
+
+/// The rows of A codes that stand on one line, by whatever turns input into output.
+/// Gives their number.
+pub fn formulas(name: &str, mut by: impl FnMut(&[u8]) -> Vec<u8>) -> usize {
+    of_call("acode", name, |row| formula(row, &mut by))
+}
+
+/// The rows of one call in all files. `differs` is `None` of a row that it leaves out;
+/// the others are counted.
+fn of_call(
+    wanted: &str,
+    name: &str,
+    mut differs: impl FnMut(&mut Row) -> Option<Option<String>>,
+) -> usize {
+    let mut count = 0;
     for file in &FILES {
-        rows(file, name, |call, row| match call {
-            "program" => program(row, &mut by),
-            _ => {
+        rows(file, name, |call, row| {
+            if call != wanted {
                 row.skip();
-                None
+                return None;
             }
+            let difference = differs(row)?;
+            count += 1;
+            difference
         });
     }
+    count
 }
 
 /// `None` if both are the same, else both in words.
@@ -271,6 +292,19 @@ fn algebra(
         (outcome.refusal, outcome.length, text.to_vec(), clear),
         expected,
     )
+}
+
+/// `None` if byte 10 stands in the A code. The program shows into 512 bytes: where a
+/// row's output is too short, it writes what the row does not tell.
+fn formula(row: &mut Row, by: impl FnOnce(&[u8]) -> Vec<u8>) -> Option<Option<String>> {
+    let (code, _output_length) = (row.bytes(), row.text());
+    let (refusal, _length, text) = (row.number::<u64>(), row.text(), row.bytes());
+    let input = [code.as_slice(), b"\n"].concat();
+    let expected = match refusal == Refusal::OutputTooShort.number() {
+        true => paper::formula(&input),
+        false => [format!("{refusal} ").as_bytes(), &text, b"\n"].concat(),
+    };
+    (!code.contains(&b'\n')).then(|| unlike(by(&input), expected))
 }
 
 fn program(row: &mut Row, by: impl FnOnce(&[u8]) -> Vec<u8>) -> Option<String> {

@@ -10,6 +10,7 @@ use super::super::buffers::Buffers;
 use super::super::calls::{AlgebraCall, PAPER};
 use super::super::expressions::{all, entries, is_literal, nesting, pieces, spelling};
 use super::super::generator::NEARLY_SHOWN;
+use super::limits::refusal;
 use super::values::VALUES;
 use super::Coverage;
 
@@ -86,6 +87,16 @@ const LIMITS: [&str; 17] = [
     "two A codes parted by 253",
 ];
 
+/// How line 1 ends for the program that shows A codes, and what stands behind it.
+const LINES: [&str; 6] = [
+    "line without end",
+    "line with end",
+    "more lines",
+    "input of 65,536",
+    "input of 65,537",
+    "line of more than is read",
+];
+
 const IN_QUOTES: [&str; 5] = [
     "251 in quotes", "252 in quotes", "253 in quotes", "254 in quotes", "255 in quotes",
 ];
@@ -114,6 +125,32 @@ impl Coverage {
         match algebra::read(code) {
             Ok(expression) => self.expression(call, &expression, refusal),
             Err(_) => self.marks(code, refusal),
+        }
+    }
+
+    /// Fails unless the program that shows A codes has reached everything.
+    pub fn require_of_formula(&self) {
+        self.require("formula", &[5, 6, 7], &[&LINES]);
+    }
+
+    /// Notes what the program that shows A codes writes. How its line ended counts
+    /// where a text is shown.
+    pub fn formula(&mut self, input: &[u8], written: &[u8]) {
+        let refusal = refusal(written);
+        self.refusal(refusal);
+        let (shown, length) = (refusal == 0, input.len());
+        let end = input.iter().position(|&byte| byte == b'\n');
+        let behind = end.map(|end| length - end - 1);
+        let is_more = behind.is_some_and(|behind| behind > 0);
+        for (reached, tag) in [
+            (shown && end.is_none(), "line without end"),
+            (shown && behind == Some(0), "line with end"),
+            (shown && is_more, "more lines"),
+            (shown && length == 65_536, "input of 65,536"),
+            (shown && length == 65_537, "input of 65,537"),
+            (end.unwrap_or(length) > 65_536, "line of more than is read"),
+        ] {
+            self.tag_if(reached, tag);
         }
     }
 

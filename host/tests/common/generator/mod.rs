@@ -252,6 +252,22 @@ pub fn conversion_by_text(rng: &mut Rng, text: &[u8]) -> ConvertCall {
     algebra::conversion(rng, text)
 }
 
+/// An A code as line 1 for the program that shows it: the line ends or the input does,
+/// and more may stand behind it, at times more than is read.
+pub fn formula(rng: &mut Rng) -> Vec<u8> {
+    let mut input = algebra::code(rng);
+    match rng.below(8) {
+        0 | 1 => {}
+        2 | 3 => input.push(b'\n'),
+        4 | 5 => input = [input, algebra::code(rng), Vec::new()].join(&b'\n'),
+        _ => {
+            input.push(*rng.pick(b"\n\n\n1"));
+            input.resize(rng.between(65_534, 65_540) as usize, *rng.pick(b"1\n"));
+        }
+    }
+    input
+}
+
 /// Three lines for the program, now and then a damaged or a missing one.
 pub fn program(rng: &mut Rng, buffers: &mut Buffers) -> Vec<u8> {
     let call = convert(rng, buffers);

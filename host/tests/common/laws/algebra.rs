@@ -1,6 +1,7 @@
 //! What document 02 promises of A codes: the F text, its refusals, and the value of the
 //! expression that it shows.
 
+use sundewfrill_host::fields;
 use sundewfrill_host::outcome::{Algebra, Check, Implementation};
 use sundewfrill_host::paper::algebra::{read, values};
 use sundewfrill_host::paper::{CODE_LENGTH, LEAST_MARK};
@@ -31,6 +32,17 @@ pub fn all(
         outputs(call, &text, implementation, buffers);
         text
     })
+}
+
+/// What the program that shows A codes writes is one line: a refusal, which is never 16,
+/// a blank, and a text exactly where there is none.
+pub fn formula(input: &[u8], written: &[u8]) {
+    let (text, end) = written.split_at(written.len().saturating_sub(1));
+    let shown = text.starts_with(b"0 F;") && !text.contains(&b'\n');
+    let refused = [b"5 ", b"6 ", b"7 "].iter().any(|line| text == *line);
+    let one_line = (shown || refused) && end == b"\n";
+    let (input, written) = (fields::write(input), written.escape_ascii().to_string());
+    law(one_line, "what the program writes", &input, &written);
 }
 
 /// The output holds the F text and then zeros; zeros throughout on a refusal.
