@@ -12,6 +12,7 @@ use Rattle.paper.specs.Bytes.{Bytes}
 use Rattle.paper.specs.Grammar as paper
 use Rattle.paper.proofs.Truths.{ltb-or}
 use Rattle.readers.specs.Places.{Peeked}
+use Rattle.readers.proofs.Taken.{Unnamed, first-of}
 use Rattle.readers.proofs.Bytes.{peeked-drop, byte-past, after-inside}
 
 module _ {s : Bytes} {at b n : ℕ} (p : Peeked s at b n) where
@@ -37,15 +38,7 @@ module _ {s : Bytes} {at b n : ℕ} (p : Peeked s at b n) where
           let same : x ≡ b = cc (e, peeked-drop h p) in
           rw (ne-eqb c x (λ (z : c ≡ x). f (sym (z ∙ same)))) refl
 
--- none of the bytes that name a reader, as the default of a `match` tells it
-abbrev Unnamed : {A : Type 0} → Type 0 → List (ℕ × paper.Reader A) → ℕ → Type 0
-Unnamed N [] b = N
-Unnamed N (c ∷ cs) b = Unnamed (N × (b ≡ c .0 → ⊥)) cs b
-
-first-of : {A : Type 0} (N : Type 0) (cs : List (ℕ × paper.Reader A)) (b : ℕ) → Unnamed N cs b → N
-first-of N [] b u = u
-first-of N (c ∷ cs) b u = first-of (N × (b ≡ c .0 → ⊥)) cs b u .0
-
+-- the byte ahead names none of these readers
 pub unnamed : {A : Type 0} (N : Type 0) (cs : List (ℕ × paper.Reader A)) {s : Bytes} {at b n : ℕ} → Peeked s at b n → Unnamed N cs b
     → paper.choose cs (drop at s) ≡ none
 unfolding paper.choose

@@ -78,8 +78,8 @@ module _ {A : Type 0} {elms : A → List Spelt} {s : Bytes} {at : ℕ} {t : Byte
             fuel = f;
             lays = lays-then elms two elms x h (omega arith) (g (x .thing)) (q (x .thing)) part;
             enough = nexts part f b;
-            same = i ∙ ap (λ (o : Option (A × Bytes)). paper.follow o (more (suc f))) (x .reads) ∙ step f (x .thing) ∙ sym (follow-gives p (g (x .thing))
-                (more f));
+            same = i ∙ ap (λ (o : Option (A × Bytes)). paper.follow o (more (suc f))) (x .reads)
+                ∙ (step f (x .thing) ∙ sym (follow-gives p (g (x .thing)) (more f)));
           }
 
 -- what is left to go for a loop: nothing once it is unread

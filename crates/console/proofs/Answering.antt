@@ -1,22 +1,20 @@
 -- From an outcome of converting to the line: its numbers are short enough to write, its answer fits, and no line is too long.
 use Prim.Native.Nat.{ℕ, _+_, _-_, _≤_}
 use mathlib.Core.Path.{_≡_, refl, sym, ap, _∙_}
-use mathlib.Core.Bool.{Bool, true, false}
 use mathlib.Core.List.{List, [], _∷_}
 use mathlib.Core.Option.{Option, none, some}
 use lib.ListN.{length, take, replicate, length-replicate}
-use lib.Dec.{leb}
 use lib.Seq.{take-at}
 use native.Mathlib.Omega.{arith}
-use borrow.Author.Tests.{leb-true}
 use Rattle.paper.specs.Bytes.{Bytes, buffer, bytes}
 use Rattle.paper.specs.Sizes.{number-most, record-most, entry-most, scratch-least}
 use Rattle.paper.specs.Numbers.{digits, trimmed, decimal}
 use Rattle.paper.specs.Codes.{Code}
 use Rattle.paper.specs.Refusals.{Res, given, refused, refusal-of, answer-of, bad-address}
 use Rattle.paper.specs.Grammar.{all-read}
-use Rattle.paper.specs.Converting.{Outcome, fitted, finished, carried-out, within-budget, ready, convert, output-after}
+use Rattle.paper.specs.Converting.{Outcome, finished, carried-out, within-budget, ready, convert, output-after}
 use Rattle.paper.specs.Program.{Address, program-budget, line, address-form, printed, answered, program}
+use Rattle.paper.proofs.Limits.{fitted-short}
 use Rattle.paper.proofs.Budget.{steps-within-budget}
 use Rattle.paper.proofs.Numbered.{converting-told}
 use Rattle.lent.specs.Over.{over}
@@ -28,23 +26,13 @@ use Rattle.grammar.specs.declared.ReadAddress.{ReadAddress}
 use Rattle.console.specs.Lines.{numbered, shown, line-most}
 use Rattle.console.proofs.Writing.{shown-printed, shown-short}
 
--- "then 16": an answer is no longer than the output
-fits : (room : ℕ) (r : Res Bytes) → length (answer-of (fitted room r)) ≤ room
-unfolding fitted
-fits room (refused n) = omega arith
-fits room (given bs) = go (leb (length bs) room) refl
-  where
-    go : (t : Bool) → leb (length bs) room ≡ t → length (answer-of (fitted room (given bs))) ≤ room
-    go true e = rw e (leb-true (length bs) room e)
-    go false e = rw e (omega arith)
-
 pub answer-fits : (item string : Bytes) (a v s budget room scratch : ℕ) → length (answer-of (convert item string a v s budget room scratch .answer)) ≤ room
 unfolding convert carried-out finished
 answer-fits item string a v s budget room scratch = go (ready item string a v s scratch)
   where
     go : (r : Res (List Code)) → length (answer-of (carried-out (within-budget budget 0) item a v s room r .answer)) ≤ room
     go (refused n) = omega arith
-    go (given cs) = fits room _
+    go (given cs) = fitted-short room _
 
 -- the answer in front of the output
 pub answer-in-front : (room : ℕ) (o : Outcome) → take (length (answer-of (o .answer))) (output-after room o) ≡ answer-of (o .answer)

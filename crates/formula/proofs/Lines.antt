@@ -1,20 +1,18 @@
 -- The first line of the input is the A code; what is told of it is the program's line, and lies within its buffer. Assumes nothing.
 use Prim.Native.Nat.{ℕ, _+_, _-_, _≤_}
 use native.Mathlib.Omega.{arith}
-use mathlib.Core.Path.{_≡_, refl, ap, _∙_}
-use mathlib.Core.Bool.{Bool, true, false}
+use mathlib.Core.Path.{_≡_, ap, _∙_}
 use mathlib.Core.List.{[], _∷_, _++_}
 use lib.ListN.{length, take, drop, length-append}
-use lib.Dec.{leb}
-use borrow.Author.Tests.{leb-true}
 use Rattle.paper.specs.Bytes.{Bytes, ch, buffer}
 use Rattle.paper.specs.Sizes.{number-most, code-most}
-use Rattle.paper.specs.Refusals.{Res, given, refused, refusal-of, answer-of}
+use Rattle.paper.specs.Refusals.{Res, refusal-of, answer-of}
 use Rattle.paper.specs.Answers.{given-of}
 use Rattle.paper.specs.Numbers.{decimal}
 use Rattle.paper.specs.Converting.{fitted}
 use Rattle.paper.specs.Program.{line, program-reads}
 use Rattle.paper.specs.declared.Given.{Given}
+use Rattle.paper.proofs.Limits.{fitted-short}
 use Rattle.paper.proofs.Numerals.{length-decimal}
 use Rattle.lent.specs.Over.{over}
 use Rattle.lent.specs.Scan.{upto, piece}
@@ -58,15 +56,6 @@ module _ (input read : Bytes) (end : ℕ) (e : read ≡ take program-reads input
       small no-room = omega arith
 
 -- no line is too long
-answer-fits : (r : Res Bytes) → length (answer-of (fitted code-most r)) ≤ code-most
-unfolding fitted
-answer-fits (refused n) = omega arith
-answer-fits (given bs) = go (leb (length bs) code-most) refl
-  where
-    go : (t : Bool) → leb (length bs) code-most ≡ t → length (answer-of (fitted code-most (given bs))) ≤ code-most
-    go true e = rw e (leb-true (length bs) code-most e)
-    go false e = rw e (omega arith)
-
 formula-short : (input : Bytes) → length (formula input) ≤ line-most
 unfolding formula told show
 formula-short input =
@@ -74,7 +63,7 @@ formula-short input =
     let number : Bytes = decimal (refusal-of x) in
     omega (
       arith,
-      answer-fits (shown-text (line 0 input)),
+      fitted-short code-most (shown-text (line 0 input)),
       length-decimal (refusal-of x),
       length-append ((number ++ ch " " ∷ []) ++ answer-of x) (10 ∷ []),
       length-append (number ++ ch " " ∷ []) (answer-of x),

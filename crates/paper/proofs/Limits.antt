@@ -2,16 +2,18 @@
 -- Assumes nothing.
 use Prim.Native.Nat.{ℕ, _≤_, _<_}
 use mathlib.Core.Path.{_≡_, refl, ap}
+use mathlib.Core.Bool.{Bool, true, false}
 use mathlib.Core.List.{[], _∷_, _++_}
 use native.Mathlib.Omega.{arith}
 use lib.Dec.{leb}
 use lib.ListN.{length, drop}
-use borrow.Author.Tests.{le-leb, lt-leb}
+use borrow.Author.Tests.{le-leb, lt-leb, leb-true}
 use Rattle.paper.specs.Bytes.{Bytes}
 use Rattle.paper.specs.Sizes.{entry-most}
-use Rattle.paper.specs.Refusals.{Res, given, refused, refuse_unless_, over-long-entry}
+use Rattle.paper.specs.Refusals.{Res, given, refused, refuse_unless_, answer-of, over-long-entry}
 use Rattle.paper.specs.Answers.{given-of, written}
 use Rattle.paper.specs.Steps.{limited}
+use Rattle.paper.specs.Converting.{fitted}
 use Rattle.paper.proofs.Refusing.{passed, never-held}
 use Rattle.paper.specs.declared.Given.{Given}
 use Rattle.paper.specs.declared.Given.the-variants.{Length, Refused}
@@ -60,3 +62,13 @@ module _ {r : Res Bytes} where
   pub gives-bytes : (held bs : Bytes) {out : Bytes} {n : ℕ} → r ≡ given bs → n ≡ length bs → out ≡ bs ++ drop (length bs) held → Answered r held out (Length n)
   unfolding given-of written
   gives-bytes held bs e k f = rw e (ap Length k, f)
+
+-- "then 16": an answer is no longer than the output
+pub fitted-short : (room : ℕ) (r : Res Bytes) → length (answer-of (fitted room r)) ≤ room
+unfolding fitted
+fitted-short room (refused n) = omega arith
+fitted-short room (given bs) = go (leb (length bs) room) refl
+  where
+    go : (t : Bool) → leb (length bs) room ≡ t → length (answer-of (fitted room (given bs))) ≤ room
+    go true e = rw e (leb-true (length bs) room e)
+    go false e = rw e (omega arith)

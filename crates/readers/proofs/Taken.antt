@@ -25,9 +25,13 @@ named [] k = false
 named (c ∷ cs) k = eqb (c .0) k || named cs k
 
 -- none of the bytes that name a reader, as the default of a `match` tells it
-abbrev pub Unnamed : {A : Type 0} → Type 0 → List (ℕ × Placed A) → ℕ → Type 0
+abbrev pub Unnamed : {X : Type 0} → Type 0 → List (ℕ × X) → ℕ → Type 0
 Unnamed N [] b = N
 Unnamed N (c ∷ cs) b = Unnamed (N × (b ≡ c .0 → ⊥)) cs b
+
+pub first-of : {X : Type 0} (N : Type 0) (cs : List (ℕ × X)) (b : ℕ) → Unnamed N cs b → N
+first-of N [] b u = u
+first-of N (c ∷ cs) b u = first-of (N × (b ≡ c .0 → ⊥)) cs b u .0
 
 module _ {A : Type 0} where
   chosen-in : (cs : List (ℕ × Placed A)) (other : Placed A) (s : Bytes) (at n k : ℕ) → byte-at s at ≡ k → after s at ≡ n → T (named cs k) → choose-or cs other s at ≡ picked cs k s n
@@ -42,10 +46,6 @@ module _ {A : Type 0} where
   -- the byte ahead names a reader
   pub chosen : (cs : List (ℕ × Placed A)) (other : Placed A) {s : Bytes} {at b n k : ℕ} {r : Option (A × ℕ)} → Peeked s at b n → b ≡ k → T (named cs k) → picked cs k s n ≡ r → choose-or cs other s at ≡ r
   chosen cs other {s} {at} {b} {n} {k} p e h f = chosen-in cs other s at n k (sym (p .stands) ∙ e) (sym (p .leads)) h ∙ f
-
-  first-of : (N : Type 0) (cs : List (ℕ × Placed A)) (b : ℕ) → Unnamed N cs b → N
-  first-of N [] b u = u
-  first-of N (c ∷ cs) b u = first-of (N × (b ≡ c .0 → ⊥)) cs b u .0
 
   missed-in : (N : Type 0) (cs : List (ℕ × Placed A)) (other : Placed A) (s : Bytes) (at b : ℕ) → byte-at s at ≡ b → Unnamed N cs b → choose-or cs other s at ≡ other s at
   unfolding choose-or
