@@ -5,8 +5,8 @@
 //!
 //! [`find`], [`replace`], [`check`], [`convert`], [`ceiling`], [`typed_date`] and
 //! [`algebra`] call the proved library. They take byte slices, hand back structs,
-//! slices or numbers, and refuse with a [`Refusal`], which has the paper's number
-//! and a sentence for the reader.
+//! slices or numbers, and refuse with a [`Refusal`], which has the paper's number,
+//! and says when it is given and what a learner should do.
 //!
 //! ```no_run
 //! # #[cfg(feature = "proved")]

@@ -83,67 +83,47 @@ impl Refusal {
         Self::ALL.get(place).copied()
     }
 
-    /// What went wrong and what would help, in a sentence for a learner.
-    pub const fn sentence(self) -> &'static str {
-        match self {
-            Refusal::RecordTooLong => {
-                "The record is too long: a record, also the one that replacing would make, has at most 32,768 bytes."
-            }
-            Refusal::ByteNotForRecords => {
-                "The record holds byte 251 or 255: these two are a buffer mark and a segment mark and never stand inside a record."
-            }
-            Refusal::BadItemId => {
-                "The item-id, which is everything before the first attribute mark, is longer than 48 bytes or holds a value or subvalue mark."
-            }
-            Refusal::BadAddress => {
-                "The address is not usable: the attribute goes up to 999, value and subvalue up to 32,768, a subvalue needs a value before it, and the item-id has neither."
-            }
-            Refusal::CodeTooLong => {
-                "The code string is too long: with the marks between its codes it has at most 512 bytes, and so have an A code and its F text."
-            }
-            Refusal::NotInGrammar => {
-                "One of the codes is not written as the grammar asks, or an A code is not an expression, so nobody can say what it should do."
-            }
-            Refusal::StackMisused => {
-                "An F code takes more entries from its stack than are there, or would put a seventeenth on it: the stack has room for 16."
-            }
-            Refusal::ScratchTooShort => {
-                "The scratch space lent for converting is too short: it needs at least 20,480 bytes."
-            }
-            Refusal::ElementTooLong => {
-                "An element, a stack entry or the result of a step would be longer than 1,024 bytes."
-            }
-            Refusal::OutOfRange => {
-                "A number is out of range: numbers have at most fifteen digits, and days go from 1 January of year 1 to 31 December 9999."
-            }
-            Refusal::DivisionByZero => {
-                "A division or a remainder by zero was asked for, and it has no result."
-            }
-            Refusal::NotConvertible => {
-                "The element is not of the kind that this code converts: a mask and a date code want a whole number, with or without blanks round it, MY wants pairs of hex digits, and a typed date must stand in the calendar in the form its code prints."
-            }
-            Refusal::MarkProduced => {
-                "The hex digits stand for a byte 251 to 255: such a byte is a mark, and MY must not produce marks."
-            }
-            Refusal::WiderThanMask => {
-                "The text is wider than the field that the mask gives it, and cutting it would show a wrong number."
-            }
-            Refusal::OverBudget => {
-                "The budget is used up: the next step would cost more than is left."
-            }
-            Refusal::OutputTooShort => {
-                "The output is shorter than the answer: lend a longer one."
-            }
-            Refusal::MarkInNewElement => {
-                "The new element holds a byte 251 to 255: such a byte is a mark, and a new element must not hold marks."
-            }
-        }
+    /// When this refusal is given, in a sentence.
+    pub fn when(self) -> &'static str {
+        let [_, when, _] = self.row();
+        when
     }
+
+    /// What a learner should do about it, in a sentence or more.
+    pub fn advice(self) -> &'static str {
+        let [_, _, advice] = self.row();
+        advice
+    }
+
+    /// The row of this refusal. The tests below see that there is one.
+    fn row(self) -> Row {
+        let number = self.number();
+        rows()
+            .find(|[cell, _, _]| cell.parse() == Ok(number))
+            .expect("every refusal has a row in docs/REFUSALS.md")
+    }
+}
+
+/// The document with the table of refusals, which has all their sentences.
+const DOCUMENT: &str = include_str!("../../docs/REFUSALS.md");
+
+/// A row of that table: number, when the refusal is given, and what to do.
+type Row = [&'static str; 3];
+
+/// The table's rows, its header among them.
+fn rows() -> impl Iterator<Item = Row> {
+    DOCUMENT.lines().filter_map(|line| {
+        let line = line.strip_prefix("| ")?.strip_suffix(" |")?;
+        let mut cells = line.split(" | ");
+        let row = [cells.next()?, cells.next()?, cells.next()?];
+        cells.next().is_none().then_some(row)
+    })
 }
 
 impl fmt::Display for Refusal {
     fn fmt(&self, f: &mut fmt::Formatter<'_>) -> fmt::Result {
-        write!(f, "refusal {}: {}", self.number(), self.sentence())
+        let (number, [_, when, advice]) = (self.number(), self.row());
+        write!(f, "refusal {number}: {when} {advice}")
     }
 }
 
@@ -168,17 +148,53 @@ mod tests {
         assert_eq!(Refusal::from_number(u64::MAX), None);
     }
 
+    /// The table has a header, a rule, and one row for each refusal, in their order.
     #[test]
-    fn every_sentence_is_its_own() {
-        for one in Refusal::ALL {
-            assert!(one.sentence().ends_with('.'));
-            for other in Refusal::ALL {
-                assert_eq!(one == other, one.sentence() == other.sentence());
-            }
+    fn every_refusal_has_its_row() {
+        let table = DOCUMENT.lines().filter(|line| line.contains('|'));
+        assert_eq!(table.count(), 2 + Refusal::ALL.len());
+        let numbers = Refusal::ALL.iter().map(|refusal| refusal.number());
+        let expected: Vec<String> = numbers.map(|number| number.to_string()).collect();
+        let mut rows = rows();
+        let header = ["No.", "given when", "what a learner should do"];
+        assert_eq!(rows.next(), Some(header));
+        assert_eq!(rows.map(|[cell, _, _]| cell).collect::<Vec<_>>(), expected);
+    }
+
+    /// All that the table says of refusals.
+    fn texts() -> Vec<&'static str> {
+        let both = |refusal: &Refusal| [refusal.when(), refusal.advice()];
+        Refusal::ALL.iter().flat_map(both).collect()
+    }
+
+    #[test]
+    fn texts_are_sentences() {
+        let begins = |first: char| first.is_ascii_uppercase() || first.is_ascii_digit();
+        for text in texts() {
+            assert!(text.starts_with(|c| begins(c) || c == '`'), "{text}");
+            assert!(text.ends_with('.'), "{text}");
+            assert!(!text.contains('|') && !text.contains("  "), "{text}");
         }
     }
 
-    /// A sentence is text of its own: this holds its number to the limit.
+    #[test]
+    fn every_text_is_its_own() {
+        let texts = texts();
+        for (place, one) in texts.iter().enumerate() {
+            assert!(!texts[..place].contains(one), "twice: {one}");
+        }
+    }
+
+    #[test]
+    fn a_refusal_says_all() {
+        let said = Refusal::StackMisused.to_string();
+        let (when, advice) = (Refusal::StackMisused.when(), Refusal::StackMisused.advice());
+        assert!(when.starts_with("An F code takes more entries than are there"));
+        assert!(advice.starts_with("Count what each elm takes and puts"));
+        assert_eq!(said, format!("refusal 7: {when} {advice}"));
+    }
+
+    /// The table is text of its own: this holds its numbers to the limits.
     #[test]
     fn sentences_have_the_limits() {
         for (refusal, limit) in [
@@ -189,10 +205,20 @@ mod tests {
             (Refusal::ScratchTooShort, SCRATCH_LENGTH),
             (Refusal::ElementTooLong, paper::ENTRY_LENGTH),
         ] {
-            let sentence = refusal.sentence().replace(',', "");
-            let words = sentence.split([' ', '.', ':']);
-            let has = words.into_iter().any(|word| word == limit.to_string());
-            assert!(has, "{limit}: {sentence}");
+            has_number(refusal.when(), limit as u64);
         }
+        for limit in [paper::LAST_ATTRIBUTE, paper::LAST_VALUE] {
+            has_number(Refusal::BadAddress.advice(), limit);
+        }
+    }
+
+    /// Fails unless this number is a word of the text; its commas do not count.
+    fn has_number(text: &str, number: u64) {
+        let text = text.replace(',', "");
+        let mut words = text.split([' ', '.', ':']);
+        assert!(
+            words.any(|word| word == number.to_string()),
+            "{number}: {text}"
+        );
     }
 }

@@ -60,10 +60,17 @@ fn checking() {
         code_number: 2,
     };
     assert_eq!(check(b"L\xfdF;1;+"), Err(bad));
-    assert!(bad.to_string().starts_with("code 2: refusal 7: An F code"));
+    let said = both_texts(Refusal::StackMisused);
+    assert_eq!(bad.to_string(), format!("code 2: refusal 7: {said}"));
     let long = check(&[b'L'; 513]).unwrap_err();
     assert_eq!((long.refusal, long.code_number), (Refusal::CodeTooLong, 0));
-    assert!(long.to_string().starts_with("refusal 5: The code string"));
+    let said = both_texts(Refusal::CodeTooLong);
+    assert_eq!(long.to_string(), format!("refusal 5: {said}"));
+}
+
+/// What the table of refusals says of this one: when it is given and what to do.
+fn both_texts(refusal: Refusal) -> String {
+    [refusal.when(), refusal.advice()].join(" ")
 }
 
 #[test]
@@ -84,9 +91,12 @@ fn converting() {
         steps: 56,
     };
     assert_eq!(stopped, expected);
-    assert!(stopped
-        .to_string()
-        .starts_with("after 56 steps: refusal 15: The budget"));
+    let said = both_texts(Refusal::OverBudget);
+    assert!(said.starts_with("The next step would bring"), "{said}");
+    assert_eq!(
+        stopped.to_string(),
+        format!("after 56 steps: refusal 15: {said}")
+    );
     assert_eq!(output, [0; 8]);
     assert!(scratch.iter().all(|&byte| byte == 0));
 }
