@@ -14,7 +14,7 @@
 //! - `stack`: the entries of an F code;
 //! - `run`: elements through codes, with the steps counted;
 //! - [`mod@algebra`]: expressions, their F text, and their value without a stack;
-//! - `program`: from standard input to standard output.
+//! - `program`, `words`: from standard input to standard output.
 
 pub mod algebra;
 mod calendar;
@@ -28,6 +28,7 @@ mod record;
 mod run;
 mod stack;
 mod text;
+mod words;
 
 use crate::outcome::{
     Address, Algebra, Ceiling, Check, Convert, Find, Implementation, Replace, TypedDate,
@@ -35,6 +36,7 @@ use crate::outcome::{
 use crate::refusal::Refusal;
 
 pub use program::{formula, program, program_with};
+pub use words::words;
 
 /// The most bytes that a record has.
 pub const RECORD_LENGTH: usize = 32_768;

@@ -7,7 +7,7 @@ use crate::outcome::{Address, Convert};
 use crate::refusal::Refusal;
 use crate::SCRATCH_LENGTH;
 
-/// How much of its input either program reads.
+/// How much of its input each program reads.
 const INPUT_LENGTH: usize = 65_536;
 /// The steps that a run may cost.
 const BUDGET: u64 = 1_000_000;
@@ -52,13 +52,13 @@ pub fn formula(input: &[u8]) -> Vec<u8> {
 }
 
 /// The lines of an input, as far as it is read.
-fn lines(input: &[u8]) -> impl Iterator<Item = &[u8]> {
+pub fn lines(input: &[u8]) -> impl Iterator<Item = &[u8]> {
     let read = &input[..input.len().min(INPUT_LENGTH)];
     read.split(|&byte| byte == b'\n')
 }
 
 /// Three numbers of 1 to 5 digits parted by commas.
-fn read_address(line: &[u8]) -> Option<Address> {
+pub fn read_address(line: &[u8]) -> Option<Address> {
     let mut pieces = line.split(|&byte| byte == b',').map(read_number);
     let at = Address {
         a: pieces.next()??,
@@ -86,7 +86,8 @@ fn written(refusal: u64, steps: u64, answer: &[u8]) -> Vec<u8> {
     line
 }
 
-fn drawn(byte: u8) -> u8 {
+/// A mark as it is drawn; any other byte as it is.
+pub fn drawn(byte: u8) -> u8 {
     match byte {
         ATTRIBUTE_MARK => b'^',
         VALUE_MARK => b']',

@@ -9,17 +9,7 @@ use sundewfrill_host::{paper, SCRATCH_LENGTH};
 use super::buffers::Buffers;
 use super::calls::{ConvertCall, ReplaceCall};
 use super::generator::NEAR_MISSES;
-
-/// Bytes with the marks drawn: `^`, `]` and `\` become 254, 253 and 252.
-pub fn marked(text: &str) -> Vec<u8> {
-    let mark = |byte| match byte {
-        b'^' => paper::ATTRIBUTE_MARK,
-        b']' => paper::VALUE_MARK,
-        b'\\' => paper::SUBVALUE_MARK,
-        _ => byte,
-    };
-    text.bytes().map(mark).collect()
-}
+use super::marks::marked;
 
 /// Converts `record` at `at` by `code` and gives refusal, steps and answer.
 fn converted(

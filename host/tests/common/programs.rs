@@ -29,6 +29,13 @@ pub const FORMULA: Program = Program {
     independent: paper::formula,
 };
 
+/// The program of the calls that `./console` has words for.
+pub const WORDS: Program = Program {
+    variable: "SUNDEWFRILL_WORDS",
+    usual: concat!(env!("CARGO_MANIFEST_DIR"), "/../target/bin/words"),
+    independent: paper::words,
+};
+
 impl Program {
     /// What the program writes for this input; on standard error it must write
     /// nothing.
@@ -80,4 +87,13 @@ pub fn run(words: &[&str], input: &[u8]) -> Output {
     let _ = stdin.write_all(input);
     drop(stdin);
     child.wait_with_output().expect("the command ends")
+}
+
+/// Fails unless the script `../console` finds the command by which it proves and builds.
+pub fn require_rt() {
+    let path = env::var_os("PATH").unwrap_or_default();
+    assert!(
+        env::split_paths(&path).any(|folder| folder.join("rt").is_file()),
+        "the Rattle kit's command rt, which the script console needs, is not on the PATH"
+    );
 }

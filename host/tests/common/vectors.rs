@@ -1,5 +1,7 @@
 //! The rows of the vectors, and how an implementation does on them.
 
+mod words;
+
 use std::fs;
 use std::path::Path;
 use std::str::FromStr;
@@ -145,6 +147,12 @@ pub fn programs(name: &str, mut by: impl FnMut(&[u8]) -> Vec<u8>) -> usize {
 /// Gives their number.
 pub fn formulas(name: &str, mut by: impl FnMut(&[u8]) -> Vec<u8>) -> usize {
     of_call("acode", name, |row| formula(row, &mut by))
+}
+
+/// Rows of a call that `./console` has a word for, typed to whatever turns input into
+/// output. Gives how many were run.
+pub fn words(call: &str, name: &str, by: impl FnMut(&[u8]) -> Vec<u8>) -> usize {
+    words::run(call, name, by)
 }
 
 /// The rows of one call in all files. `differs` is `None` of a row that it leaves out;

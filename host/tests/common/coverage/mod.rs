@@ -10,6 +10,7 @@ mod masks;
 mod patterns;
 mod steps;
 mod values;
+mod words;
 
 use std::collections::BTreeSet;
 

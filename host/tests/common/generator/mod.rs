@@ -12,6 +12,7 @@ mod elements;
 mod patterns;
 mod records;
 mod rng;
+mod words;
 
 use sundewfrill_host::outcome::Address;
 use sundewfrill_host::{paper, Refusal, SCRATCH_LENGTH};
@@ -290,4 +291,9 @@ pub fn program(rng: &mut Rng, buffers: &mut Buffers) -> Vec<u8> {
         _ => {}
     }
     lines
+}
+
+/// A call that `./console` has words for, as the program of these calls reads it.
+pub fn words(rng: &mut Rng, buffers: &mut Buffers) -> Vec<u8> {
+    words::call(rng, buffers)
 }
