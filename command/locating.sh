@@ -1,7 +1,7 @@
 # shellcheck shell=bash
 # For ../console, which sources it: at which element and which code a run was refused, by running elements and codes one at a time.
 
-# No more elements than this are tried: each is a run of the program.
+# No more elements than this are tried, nor elms of an F code: each is a run of a program.
 TRIED=100
 
 # Document 01's line of three lines; a zero byte, which MY can give, has no place in the shell's words.
