@@ -12,7 +12,9 @@ use std::path::Path;
 
 use common::documents::ROOT;
 use common::marks::marked;
-use common::script::{console, kit, path_with, path_without_rt, rows, typed, words, Folder};
+use common::script::{
+    console, kit, path_with, path_without_rt, rows, typed, words, Folder, Written,
+};
 use sundewfrill_host::paper;
 
 /// Nothing on standard error.
@@ -156,6 +158,10 @@ ceiling 1,0,0 'K1^1' L 'F;1;+' => refusal = 7\n => code 2 of 2, at byte 3 of the
     let code = "code 129 of 129, at byte 513 of the code string: `MCT`";
     let known = console(&over).refused("refusal = 5, code = 0\n");
     assert_eq!(known, ["the code string has 515 bytes", code]);
+    let longest = format!("F;'{}'", "x".repeat(508));
+    let code = "code 2 of 2, at byte 514 of the code string: `L`";
+    let known = words(&[b"check", longest.as_bytes(), b"L"]).refused("refusal = 5, code = 0\n");
+    assert_eq!(known[1], code);
     let front = ["X", &"y".repeat(59)].concat();
     let code = format!("code 1 of 1, at byte 1 of the code string: `{front}...`");
     let known = console(&format!("check {front}y")).refused("refusal = 6, code = 1\n");
@@ -516,36 +522,46 @@ fn unchanged() {
     call.with("RATTLE_HOME", kit()).writes(EXAMPLE, NOTHING, 0);
 }
 
-/// Something has changed, so it is proved, once: in a copy with hardly a source, by a
-/// command that counts its calls and takes the programs from here.
-#[test]
-fn changed() {
-    let folder = Folder::new("changed");
-    let copy = format!(
-        "cd '{}' && mkdir crates calls && cp -r '{ROOT}'/console '{ROOT}'/command '{ROOT}'/docs . && \
-         touch crates/one crates.txt",
-        folder.path.display()
-    );
-    typed(&copy).writes("", NOTHING, 0);
+/// A copy of the script with hardly a source, and an `rt` that counts its calls, takes
+/// so many seconds, and then the programs from here.
+fn copy(name: &str, seconds: u32) -> Folder {
+    let folder = Folder::new(name);
+    let parts = ["console", "command", "docs"].map(|part| format!("'{ROOT}'/{part}"));
+    let parts = parts.join(" ");
+    let made = format!("mkdir crates calls && cp -r {parts} . && touch crates/one crates.txt");
+    typed(&made).from(&folder.path).writes("", NOTHING, 0);
+    let taken = format!("mkdir -p target/bin && cp '{ROOT}'/target/bin/* target/bin");
     rt(
         &folder.path,
-        &format!(
-            "mktemp calls/XXXX >&2; mkdir -p target/bin && cp '{ROOT}'/target/bin/* target/bin"
-        ),
+        &format!("mktemp calls/XXXX && sleep {seconds} && {taken}"),
     );
+    folder
+}
+
+/// What is typed in a copy, by its own `rt`.
+fn in_copy(folder: &Folder, line: &str) -> Written {
+    let call = typed(line).from(&folder.path);
+    let call = call.with("PATH", path_with(&folder.path));
+    call.with("RATTLE_HOME", kit()).run()
+}
+
+/// How often the `rt` of a copy was called.
+fn proved(folder: &Folder) -> usize {
+    let calls = fs::read_dir(folder.path.join("calls"));
+    calls.expect("the folder is ours").count()
+}
+
+/// Something has changed, so it is proved, once.
+#[test]
+fn changed() {
+    let folder = copy("changed", 0);
     let must_prove = |change: &str, times: usize| {
         typed(change).from(&folder.path).writes("", NOTHING, 0);
-        let call = typed("./console").from(&folder.path);
-        let call = call.with("PATH", path_with(&folder.path));
-        let written = call.with("RATTLE_HOME", kit()).run();
-        let first = written
-            .lines
-            .iter()
-            .all(|line| line.starts_with("proving "));
-        assert!(first, "{written}");
+        let written = in_copy(&folder, "./console");
+        let begins = |line: &String| line.starts_with("proving ");
+        assert!(written.lines.iter().all(begins), "{written}");
         written.must_be(EXAMPLE.as_bytes(), &written.lines, 0);
-        let calls = fs::read_dir(folder.path.join("calls")).expect("it is ours");
-        assert_eq!(calls.count(), times, "behind {change:?}");
+        assert_eq!(proved(&folder), times, "behind {change:?}");
     };
     must_prove("true", 1);
     must_prove("true", 1);
@@ -555,6 +571,17 @@ fn changed() {
     must_prove("rm target/bin/formula", 4);
     must_prove("touch crates/one", 4);
     must_prove("touch crates/two", 5);
+}
+
+/// Of calls at the same time one proves, and the others wait for it.
+#[test]
+fn at_the_same_time() {
+    let folder = copy("at the same time", 3);
+    let written = in_copy(&folder, "./console & ./console & ./console & wait");
+    written.must_be(EXAMPLE.repeat(3).as_bytes(), &written.lines, 0);
+    let waits = "waiting for another call that is proving here";
+    assert!(written.lines.iter().any(|line| line == waits), "{written}");
+    assert_eq!(proved(&folder), 1);
 }
 
 /// A copy of the script alone says what is missing, and a shell that is not bash calls it.
