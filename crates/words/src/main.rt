@@ -1,7 +1,7 @@
 // The calls that `./console` has words for, over the proved functions: one call on standard input, a line of named numbers on standard output.
 // Line 1 is the call's letter, and the lines behind it are its words in the order in which they are typed, records and codes with raw marks:
-// `c` checking: code; `f` finding: address, record; `r` replacing: address, record, new element; `d` a typed date: code, text;
-// `b`, or any other letter, the ceiling: address, record, code. A line ends at byte 10, missing lines are empty, and 65,536 bytes are read, as by document 01's program.
+// `c` checking: code; `f` finding: address, record; `r` replacing: address, record, new element; `d` a typed date: code, text; `b`, or any other letter, the
+// ceiling: address, record, code. A line ends at byte 10, missing lines are empty, and 65,536 bytes are read, as by document 01's program.
 // That the answers are right is proved of the crates below; this shows them, is proved safe and ending, and is held to a stored text and to the vectors.
 mod placed;
 mod showing;
