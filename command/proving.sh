@@ -1,5 +1,6 @@
 # shellcheck shell=bash
-# For ../console and ../host/cargo, which source it: the kit, rt showing on standard error how far it is, and the proved programs.
+# For ../console, ../host/cargo and ../page/build, which source it: the kit, rt showing on standard error how far it is, the proved programs, and the
+# proved library as an archive and as the module that the archive was compiled from.
 
 unset CDPATH
 # the repository's folder
@@ -125,4 +126,37 @@ make_programs() { # WHO
 
 programs() { # WHO
     unchanged "$(sources)" || alone "$1" make_programs "$1"
+}
+
+# The kit as links, but that its compiler keeps the module that it is given: what rt compiles right after proving it.
+mirror_kit() { # FOLDER KEPT-MODULE
+    local own folder entry
+    own=on/$(uname -m)
+    rm -rf "$1" && mkdir -p "$1/$own/toolchain/bin" || return
+    for folder in . on "$own" "$own/toolchain" "$own/toolchain/bin"; do
+        for entry in "$kit/$folder"/*; do
+            [ -e "$1/$folder/${entry##*/}" ] || ln -s "$entry" "$1/$folder/" || return
+        done
+    done
+    rm "$1/$own/toolchain/bin/clang" || return
+    {
+        echo '#!/bin/sh'
+        # shellcheck disable=SC2016
+        printf 'for word; do case $word in *.bc) cp "$word" %q || exit ;; esac; done\n' "$2"
+        printf 'exec %q "$@"\n' "$tools/bin/clang"
+    } >"$1/$own/toolchain/bin/clang" && chmod +x "$1/$own/toolchain/bin/clang"
+}
+
+# The archive and its module, by one run of rt; unless they are there, made of what is proved now.
+make_library() { # WHO
+    local parts=(target/stamp/sundewfrill target/staticlib/libsundewfrill.a target/staticlib/sundewfrill.bc) sums=target/staticlib/made-of
+    shown_rt "$1" check sundewfrill || return
+    ! sha256sum --check --status "$sums" 2>/dev/null || return 0
+    echo "$1: building the library's archive" >&2
+    mkdir -p target/staticlib && rm -f "${parts[@]:1}" && mirror_kit "$root/target/kit" "$root/target/staticlib/sundewfrill.bc" &&
+        RATTLE_HOME=$root/target/kit shown_rt "$1" staticlib sundewfrill && sha256sum "${parts[@]}" >"$sums"
+}
+
+library() { # WHO
+    alone "$1" make_library "$1"
 }
