@@ -140,7 +140,7 @@ mirror_kit() { # FOLDER KEPT-MODULE
     done
     rm "$1/$own/toolchain/bin/clang" || return
     {
-        echo '#!/bin/sh'
+        echo '#!/usr/bin/env bash'
         # shellcheck disable=SC2016
         printf 'for word; do case $word in *.bc) cp "$word" %q || exit ;; esac; done\n' "$2"
         printf 'exec %q "$@"\n' "$tools/bin/clang"

@@ -2,6 +2,9 @@
 # For build, test and measure, which source it: what they need, and the one line that is said where it cannot be had. They name themselves in `who`, and in
 # `not` what then is not done.
 
+# shellcheck source=command/installing.sh
+. ../command/installing.sh || exit 3
+
 say() { echo "${who:?}: $*" >&2; }
 
 missing() { # WHAT HOW-TO-HAVE-IT
@@ -19,15 +22,16 @@ node_is_here() {
 
 chromium_is_here() { command -v chromium-headless-shell >/dev/null || command -v chromium >/dev/null; }
 
-install() { # PACKAGE
-    [ "$(id -u)" = 0 ] && command -v apt-get >/dev/null || return
-    say "installing $1"
-    apt-get update -q >/dev/null && DEBIAN_FRONTEND=noninteractive apt-get install -y -q --no-install-recommends "$1" >/dev/null
-}
-
 # What is not here is installed where that may be done.
 need() { # WHETHER-IT-IS-HERE WHAT PACKAGE
     "$1" && return
     install "$3"
     "$1" || missing "$2" "Install Debian's $3"
+}
+
+# Whether the folder that SUNDEWFRILL_PAGE names, if it names one, is there.
+need_other_page() {
+    [ -z "$SUNDEWFRILL_PAGE" ] || [ -d "$SUNDEWFRILL_PAGE" ] && return
+    say "there is no folder $SUNDEWFRILL_PAGE"
+    exit 2
 }
