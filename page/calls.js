@@ -15,6 +15,8 @@ const sundewfrill = (() => {
 
     let compiled = null;
     let library = null;
+    // An instance for after a trap, made beforehand: making one at once is refused by older browsers.
+    let spare = null;
     // The memory as it is seen from here, and where the words and the bytes of a call stand in it.
     let memory = null;
     let view = null;
@@ -33,10 +35,15 @@ const sundewfrill = (() => {
         see();
     }
 
+    async function makeSpare() {
+        spare = await WebAssembly.instantiate(compiled, {});
+    }
+
     // Compiles the module; the calls answer once this has.
     async function load(bytes) {
         compiled = await WebAssembly.compile(bytes);
         begin(await WebAssembly.instantiate(compiled, {}));
+        await makeSpare();
     }
 
     // Growing takes the memory away from whoever looks at it.
@@ -82,8 +89,9 @@ const sundewfrill = (() => {
         try {
             library[name]();
         } catch (trap) {
-            // what a trap leaves behind is not to be trusted: the next call has a new instance
-            begin(new WebAssembly.Instance(compiled, {}));
+            // what a trap leaves behind is not to be trusted: the next call has another instance
+            begin(spare);
+            makeSpare();
             throw trap;
         }
     }

@@ -1,20 +1,11 @@
 // The border between the proved library and the page. A call's numbers, addresses and lengths are 64-bit words in memory, and so is what it gives
 // back: a function takes nothing and returns at most 32 bits, so that the browser needs no 64-bit integers. calls.js lays the words and the bytes out.
 
-typedef unsigned char u8;
+#include "sundewfrill.h"
+
 typedef unsigned int u32;
-typedef unsigned long u64;
 
 _Static_assert(sizeof(u64) == 8 && sizeof(u8 *) == 8, "the module was laid out for pointers of 8 bytes");
-
-// As host/src/ffi.rs has them: a slice is an address and a length.
-u64 sundewfrill_find(const u8 *, u64, u64, u64, u64, u64 *, u64 *, u64 *);
-u64 sundewfrill_replace(const u8 *, u64, const u8 *, u64, u8 *, u64, u64, u64, u64, u64 *);
-u64 sundewfrill_check(const u8 *, u64, u64 *, u64 *, u64 *, u64 *, u64 *);
-u64 sundewfrill_convert(const u8 *, u64, const u8 *, u64, u8 *, u64, u8 *, u64, u64, u64, u64, u64, u64 *, u64 *);
-u64 sundewfrill_ceiling(const u8 *, u64, const u8 *, u64, u64, u64, u64, u64 *);
-u64 sundewfrill_typed_date(const u8 *, u64, const u8 *, u64, u64 *, u64 *);
-u64 sundewfrill_algebra(const u8 *, u64, u8 *, u64, u64 *);
 
 // What a call is given, in its order; and what it gives: the refusal, then its numbers in their order.
 static u64 given[12];
@@ -54,7 +45,7 @@ typedef u64 __attribute__((aligned(1), may_alias)) word;
 
 void *memset(void *at, int value, u64 length) {
     u8 *to = at;
-    u64 all = (u8)value * 0x0101010101010101;
+    u64 all = (u8)value * 0x0101010101010101u;
     for (; length >= 8; length -= 8, to += 8) *(word *)to = all;
     for (; length > 0; length--) *to++ = (u8)value;
     return at;
