@@ -5,7 +5,7 @@ const answer = (() => {
     const SHOWN = 2000;
     const CELL_SHOWN = 60;
 
-    // Where a number of steps stands on the bar: each power of ten has the same width, so that 345 and 1,000,000 are both seen.
+    // Where a number of steps stands on the bar: each power of ten has the same width and a stroke, so that 345 and 1,000,000 are both seen.
     const share = (steps, most) => (steps <= 0 ? 0 : Math.min(100, (100 * Math.log10(steps + 1)) / Math.log10(most + 1)));
 
     function stepsText({ refusal, steps, ceiling, budget }) {
@@ -25,7 +25,9 @@ const answer = (() => {
             return make('div', { class: 'tick ' + name + (left < 30 ? ' left' : ''), style: 'left: ' + left + '%' },
                 make('span', { text: name + ' ' + words.number(value) }));
         };
-        fill(box, make('div', { class: 'bar' }, make('div', { class: 'done', style: 'width: ' + share(steps, most) + '%' })),
+        const powers = Array.from({ length: Math.floor(Math.log10(most)) }, (_, i) => 10 ** (i + 1));
+        fill(box, make('div', { class: 'bar' }, make('div', { class: 'done', style: 'width: ' + share(steps, most) + '%' }),
+            ...powers.map((power) => make('div', { class: 'power', style: 'left: ' + share(power, most) + '%' }))),
             ...(ceiling > 0 ? [tick('ceiling', ceiling)] : []), tick('budget', budget));
     }
 
@@ -46,23 +48,26 @@ const answer = (() => {
 
     const knownElement = (shown) => {
         const { elements, culprit } = shown;
-        return [['It is the element at ' + placeOf(shown) + ', of ' + words.counted(elements.element(culprit.index).length, 'byte') + '.']];
+        return [[words.refusedAt(shown) + ', of ' + words.counted(elements.element(culprit.index).length, 'byte') + '.']];
     };
 
     class Answer {
         constructor(boxes) {
-            Object.assign(this, boxes, { shown: null });
+            Object.assign(this, boxes, { shown: null, refused: -1 });
             this.list = rows.create(this.table, (index) => this.drawRow(index));
         }
 
         show(shown, record, addressText) {
-            this.shown = shown;
+            const refused = shown.culprit ? shown.culprit.index : -1;
+            const isNew = refused >= 0 && refused !== this.refused;
+            Object.assign(this, { shown, refused });
             const isDone = shown.refusal === 0;
             this.box.classList.toggle('refused', !isDone);
             fill(this.value, ...(isDone ? this.drawValue(shown.answer) : this.drawRefusal(shown, record, addressText)));
             this.steps.textContent = stepsText(shown);
             drawMeter(this.meter, shown);
             this.showTable();
+            if (isNew) this.list.reveal(refused);
         }
 
         drawValue(data) {
@@ -80,7 +85,7 @@ const answer = (() => {
 
         showTable() {
             const { elements, coded, lines } = this.shown;
-            const heads = ['element'].concat(coded.map((line) => 'after ' + (lines.indexOf(line) + 1) + ': ' + line.text));
+            const heads = ['element'].concat(coded.map((line) => lines.indexOf(line) + 1 + ': ' + line.text));
             this.table.parentNode.hidden = elements === null || !(runs.ran(this.shown.refusal) || this.shown.bad);
             if (this.table.parentNode.hidden) return;
             this.table.style.setProperty('--columns', heads.length);

@@ -10,8 +10,10 @@ const bytes = (() => {
     const ADDRESS = /^([0-9]{1,5}),([0-9]{1,5}),([0-9]{1,5})$/;
     // A byte that no text can show stands there as this and the byte: half of a pair, which no text has by itself.
     const LONE = 0xdc00;
-    // A plain ^ ] or \ in a record would look like a mark, and a line end would end its line.
-    const HIDDEN = new Set([10, 13, 92, 93, 94]);
+    // A control byte shows nothing, and a line end would end its line; a plain ^ ] or \ in a record would look like a mark.
+    const CONTROL = [127].concat(Array.from({ length: 32 }, (_, i) => i));
+    const HIDDEN = new Set(CONTROL.concat([92, 93, 94]));
+    const HIDDEN_IN_CODES = new Set(CONTROL);
 
     const utf8 = new TextDecoder('utf-8', { fatal: true, ignoreBOM: true });
     const encoder = new TextEncoder();
@@ -54,8 +56,8 @@ const bytes = (() => {
     // A record as a text with its marks drawn.
     const drawn = (data) => pieces(data).map((piece) => piece.text || piece.mark || lone(piece.byte)).join('');
 
-    // A text with no marks in it, such as a code.
-    const plain = (data) => pieces(data, new Set()).map((piece) => piece.text || lone(piece.byte)).join('');
+    // A text with no marks in it: a code, or with no bytes hidden a text of several lines.
+    const plain = (data, hidden = HIDDEN_IN_CODES) => pieces(data, hidden).map((piece) => piece.text || lone(piece.byte)).join('');
 
     // The bytes of a text; `marks` says which letters stand for which bytes.
     function of(text, marks = {}) {

@@ -53,9 +53,12 @@ const codes = (() => {
         // What is known of a refusal that this line causes: the elm, or the element and what the line was given.
         known(shown) {
             if (shown.bad) return this.knownOfElm(shown.bad).concat(this.knownAsMeant(shown.bad));
-            const { index, given } = shown.culprit;
-            const which = 'It is the element at ' + words.address(shown.elements.place(index)) + '. This code was given ';
-            return [[which, make('code', {}, ...drawing.data(given, SHOWN)), given.length ? '' : 'nothing', ', ' + words.counted(given.length, 'byte') + '.']];
+            const { given } = shown.culprit;
+            const which = words.refusedAt(shown) + '. This code was given ';
+            const size = ', ' + words.counted(given.length, 'byte') + '.';
+            const element = [which, make('code', {}, ...drawing.value(given, SHOWN)), size];
+            const enough = ['A budget of ' + words.number(shown.ceiling) + ', which is the ceiling, is always enough here.'];
+            return shown.refusal === 15 ? [element, enough] : [element];
         }
 
         knownOfElm({ line, elm }) {
@@ -65,8 +68,14 @@ const codes = (() => {
             return [[what, make('code', {}, line.text.slice(0, elm.from), make('mark', { text: bad || '␣' }), line.text.slice(elm.to))]];
         }
 
-        knownAsMeant({ meant }) {
-            return meant === null ? [] : [['Did you mean ', make('code', { text: meant }), '?']];
+        // What was probably meant, or else the form of such a code.
+        knownAsMeant({ line, refusal, meant, several }) {
+            if (refusal !== 6) return [];
+            if (line.text.trim() === '') return [['The line holds blanks alone.']];
+            if (meant) return [['Did you mean ', make('code', { text: meant }), '?']];
+            if (several) return [['Several codes stand on several lines: ', ...several.map((code) => make('code', { class: 'one', text: code }))]];
+            const section = reference.sectionOf(line.text);
+            return section && !line.formula ? [[...reference.form(section), ' ', make('a', { href: '#' + section, text: 'More in the reference' })]] : [];
         }
 
         // `line` is what the run says of it, `shown` the whole run.
@@ -79,13 +88,16 @@ const codes = (() => {
             if (line.isDate) this.showDay();
             const formula = line.formula && line.formula.refusal === 0
                 ? [make('p', { class: 'formula' }, 'stands for ', make('code', { text: bytes.plain(line.code) }))] : [];
-            const behind = isBad ? [make('div', { class: 'refusal' }, ...drawing.refusal(shown.refusal, this.known(shown)))] : this.result(line);
+            const behind = isBad ? [make('div', { class: 'refusal' }, ...drawing.refusal(shown.refusal, this.known(shown)))] : this.result(line, shown);
             fill(this.after, ...formula, ...behind);
         }
 
-        result(line) {
-            if (line.blank || !line.after || line.after.refusal !== 0) return [];
-            const { answer, steps } = line.after;
+        result(line, { coded, culprit }) {
+            if (line.blank || !line.after) return [];
+            const { refusal, answer, steps } = line.after;
+            // behind the line that was refused nothing came of any
+            const isBehind = culprit !== null && coded.indexOf(line) > coded.indexOf(culprit.line);
+            if (refusal !== 0) return isBehind ? [] : [make('p', { class: 'help', text: 'Refusal ' + refusal + ', were it the last code.' })];
             return [make('p', { class: 'stands' }, make('span', { class: 'arrow', text: '→ ' }),
                 make('code', { class: 'value' }, ...drawing.value(answer, SHOWN)), ' ', make('span', { class: 'steps', text: words.counted(steps, 'step') }))];
         }

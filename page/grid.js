@@ -43,17 +43,20 @@ const grid = (() => {
             Object.assign(this, parts, { box, told, record: null, address: null, bad: null, first: 1, editing: null });
             // where the keys are: an attribute, and a row, -1 for the head
             [this.column, this.row] = [1, 0];
-            this.list = rows.create(box, (index) => this.drawRow(index));
+            this.list = rows.create(box, (index) => this.drawRow(index), () => this.row);
             this.takeIn(new Uint8Array(0));
             box.addEventListener('keydown', (event) => this.onKey(event));
-            box.addEventListener('click', (event) => this.onClick(event));
+            box.addEventListener('mousedown', (event) => this.onPress(event));
+            // a click that no button made, as tools for the blind do
+            box.addEventListener('click', (event) => event.detail === 0 && this.onPress(event));
             this.earlier.addEventListener('click', () => this.turn(-COLUMNS));
             this.later.addEventListener('click', () => this.turn(COLUMNS));
         }
 
         // Other columns, and the keys with them.
         turn(columns) {
-            this.column = Math.max(1, Math.min(this.first + columns, this.attributes.length));
+            this.first = Math.max(1, Math.min(this.first + columns, this.attributes.length - 1));
+            this.column = this.first;
             this.draw();
         }
 
@@ -86,6 +89,13 @@ const grid = (() => {
             return at !== null && at.a === a && (at.v === 0 || at.v === v) && (at.s === 0 || at.s === s);
         }
 
+        // Whether this is the very place that is picked and is missing.
+        isMissed(a, index) {
+            const { v, s } = this.positions[index];
+            const at = this.address;
+            return at !== null && at.a === a && (at.v || 1) === v && (at.s || 1) === s;
+        }
+
         // Whether this is the element that the run was refused at; an address may leave out what is 1.
         isBad(a, index) {
             const { v, s } = this.positions[index];
@@ -113,6 +123,7 @@ const grid = (() => {
                 class: kind + (this.isNext(a) ? ' next' : ''),
                 'data-a': a,
                 'data-row': index,
+                'aria-colindex': a + 2,
                 'aria-label': name,
                 'aria-selected': isSelected ? 'true' : 'false',
                 tabindex: a === this.column && index === this.row ? 0 : -1,
@@ -121,7 +132,7 @@ const grid = (() => {
 
         drawCell(a, index) {
             const element = this.element(a, index);
-            if (element === null) return this.cell(a, index, 'gridcell', this.nameOf(a, index) + ': nothing there', 'cell missing', false);
+            if (element === null) return this.cell(a, index, 'gridcell', this.nameOf(a, index) + ': nothing there', 'cell missing', this.isMissed(a, index));
             const name = this.nameOf(a, index) + ': ' + (element.length ? bytes.drawn(element.subarray(0, SHOWN)) : 'empty');
             const kind = this.isBad(a, index) ? 'cell bad' : 'cell';
             return this.cell(a, index, 'gridcell', name, kind, this.isPicked(a, index), ...drawing.data(element, SHOWN));
@@ -166,16 +177,18 @@ const grid = (() => {
 
         // `bad` is the place of the element that was refused, or null.
         show(record, address, bad) {
+            const isElsewhere = !this.box.contains(document.activeElement);
+            const isNew = JSON.stringify([address, bad]) !== JSON.stringify([this.address, this.bad]);
             Object.assign(this, { address, bad });
             this.takeIn(record);
             // the keys begin at what is picked, wherever it was picked
-            if (address !== null && !this.box.contains(document.activeElement)) this.begin(address);
+            if (address !== null && isElsewhere) [this.column, this.row] = [address.a, this.rowOf(address)];
             this.draw();
+            if (isNew && isElsewhere && address !== null) this.list.reveal(this.rowOf(bad || address));
         }
 
-        begin({ a, v, s }) {
-            this.column = a;
-            this.row = Math.max(0, this.positions.findIndex((position) => position.v === (v || 1) && position.s === (s || 1)));
+        rowOf({ v, s }) {
+            return Math.max(0, this.positions.findIndex((position) => position.v === (v || 1) && position.s === (s || 1)));
         }
 
         // Picks a cell: its value or its subvalue; picked again, what is wider by one.
@@ -185,7 +198,7 @@ const grid = (() => {
             if (index < 0) return this.told.pick(addressOf(a, 0, 0));
             const { v, s } = this.positions[index];
             const choices = (this.isSingle(a, index) ? [] : [addressOf(a, v, s)]).concat([addressOf(a, v, 0), addressOf(a, 0, 0)]);
-            const now = this.address === null ? '' : addressOf(this.address.a, this.address.v, this.address.s);
+            const now = this.address === null ? '' : words.address(this.address);
             this.told.pick(choices[(choices.indexOf(now) + 1) % choices.length]);
         }
 
@@ -210,6 +223,7 @@ const grid = (() => {
         edit(a, index, text) {
             // the id stands in the first row alone
             if (index < 0 || (a === 0 && index > 0)) return;
+            this.told.left();
             this.go(a, index);
             const old = bytes.drawn(this.element(a, index) || new Uint8Array(0));
             const input = make('input', { 'aria-label': 'New text of ' + this.nameOf(a, index), spellcheck: 'false', autocomplete: 'off' });
@@ -262,25 +276,30 @@ const grid = (() => {
                 case ' ': return () => this.pick(a, index);
                 case 'F2': return () => this.edit(a, index, null);
                 case 'Delete': return () => this.edit(a, index, '');
-                default: return key.length === 1 ? () => this.edit(a, index, key) : null;
+                default: return Array.from(key).length === 1 ? () => this.edit(a, index, key) : null;
             }
         }
 
         onKey(event) {
-            const does = event.ctrlKey || event.altKey || event.metaKey ? null : this.meaning(event.key);
+            // some keyboards have ] and \ behind the key AltGr, which counts as Ctrl and Alt
+            const isOther = (event.ctrlKey || event.altKey || event.metaKey) && !event.getModifierState('AltGraph');
+            const does = isOther ? null : this.meaning(event.key);
             if (does === null) return;
             event.preventDefault();
             does();
             this.focus();
         }
 
-        onClick(event) {
+        // Pressing, and not the click behind it: taking what was typed elsewhere, or the first of two clicks, draws the cell anew, and no click would come.
+        onPress(event) {
             const node = event.target.closest('[data-a]');
-            if (!node || event.target.closest('input')) return;
+            if (!node || event.button !== 0 || event.target.closest('input')) return;
+            event.preventDefault();
             const [a, index] = [Number(node.dataset.a), Number(node.dataset.row)];
-            // the second click of a double one; the browser's own word for it does not come, since the first one has drawn the cell anew
+            if (this.editing) this.editing.blur();
+            else node.focus();
             if (event.detail === 2) return this.edit(a, index, null);
-            this.pick(a, index);
+            this.pick(a, Math.min(index, this.positions.length - 1));
             this.focus();
         }
     }

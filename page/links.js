@@ -2,6 +2,8 @@
 // An exercise as a link: what stands behind its # says record, address, codes, and perhaps a budget, a task and the answer that is wanted.
 const links = (() => {
     const BUDGET = 1000000;
+    // So many steps take about a second; a link or a slip of the hand is not to stop the page for longer.
+    const MOST_BUDGET = 100000000;
 
     // "%41" and "A" alike; what no text can show is %FB.
     function decoded(text) {
@@ -48,8 +50,8 @@ const links = (() => {
             else if (name === 'wanted') said.wanted = bytes.typed(textOf(value));
             else if (name === 'wantedbytes') said.wanted = decoded(value);
             else if (name === 'code') said.codes.push(textOf(value));
-            else if (name === 'budget' && /^[0-9]{1,15}$/.test(value)) said.budget = Number(value);
-            else if (['at', 'title', 'task'].includes(name)) said[name] = textOf(value);
+            else if (name === 'budget' && /^[0-9]{1,9}$/.test(value)) said.budget = Math.min(Number(value), MOST_BUDGET);
+            else if (['at', 'title', 'task'].includes(name)) said[name] = bytes.plain(decoded(value), new Set());
         }
         return said.record === null ? null : said;
     }
@@ -67,12 +69,12 @@ const links = (() => {
             ...text('title'),
             ...text('task'),
             bytesAs('record', 'bytes', said.record),
-            ...text('at'),
+            'at=' + encoded(bytes.of(said.at)),
             ...said.codes.map((code) => 'code=' + encoded(bytes.of(code))),
             ...(said.budget === undefined || said.budget === BUDGET ? [] : ['budget=' + said.budget]),
             ...(said.wanted ? [bytesAs('wanted', 'wantedbytes', said.wanted)] : []),
         ].join('&');
     }
 
-    return { BUDGET, read, write };
+    return { BUDGET, MOST_BUDGET, read, write };
 })();

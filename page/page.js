@@ -3,7 +3,6 @@
 const page = (() => {
     const { make, fill } = drawing;
     const named = (id) => document.getElementById(id);
-    const MOST_BUDGET_DIGITS = 15;
     const SAID = 200;
     const WIDE = '(min-width: 60em)';
     // The invoice of README's lesson.
@@ -39,6 +38,8 @@ const page = (() => {
             on('record', 'keydown', (event) => event.key === 'Enter' && event.preventDefault());
             on('address', 'input', () => this.update());
             on('budget', 'input', () => this.typeBudget());
+            on('budget', 'change', () => { named('budget').value = words.number(this.budget); });
+            on('restore', 'click', () => this.restore());
             on('add-code', 'click', () => this.lines.insert(this.lines.lines.length, ['']));
             on('open-reference', 'click', () => this.toggleReference(named('reference').hidden));
             on('close-reference', 'click', () => this.toggleReference(false));
@@ -50,6 +51,12 @@ const page = (() => {
             window.addEventListener('resize', () => this.holdHeight(false));
             document.addEventListener('click', (event) => this.follow(event));
             document.addEventListener('keydown', (event) => event.key === 'Escape' && !event.defaultPrevented && this.toggleReference(false));
+        }
+
+        // What stands on the page, as a link says it.
+        state() {
+            const { title, task, wanted } = this.task;
+            return { title, task, wanted, record: this.record, at: named('address').value, codes: this.lines.texts(), budget: this.budget };
         }
 
         // What a link says; without one, the lesson's invoice.
@@ -66,7 +73,7 @@ const page = (() => {
         set({ record, at, codes: texts, budget = links.BUDGET, title = '', task = '', wanted = null }) {
             this.record = record;
             this.budget = budget;
-            this.task = { title, task, wanted, record, at };
+            this.task = { title, task, wanted, record, at, budget };
             this.holdHeight(false);
             named('record').value = bytes.drawn(record);
             named('address').value = at;
@@ -90,11 +97,11 @@ const page = (() => {
 
         typeBudget() {
             const digits = named('budget').value.replace(/[, ]/g, '');
-            const isNumber = /^[0-9]+$/.test(digits) && digits.length <= MOST_BUDGET_DIGITS;
-            named('budget').setAttribute('aria-invalid', isNumber ? 'false' : 'true');
-            const still = 'A budget is a whole number of up to 15 digits; ' + words.number(this.budget) + ' still stands.';
-            named('budget-words').textContent = isNumber ? '' : still;
-            if (isNumber) this.budget = Number(digits);
+            const isBudget = /^[0-9]+$/.test(digits) && Number(digits) <= links.MOST_BUDGET;
+            const still = 'A budget is a whole number up to ' + words.number(links.MOST_BUDGET) + '; ' + words.number(this.budget) + ' still stands.';
+            named('budget').setAttribute('aria-invalid', isBudget ? 'false' : 'true');
+            named('budget-words').textContent = isBudget ? '' : still;
+            if (isBudget) this.budget = Number(digits);
             this.update();
         }
 
@@ -124,7 +131,16 @@ const page = (() => {
             return true;
         }
 
+        // An answer that is not that of what stands in the fields is worse than none.
         update() {
+            try {
+                this.run();
+            } catch (reason) {
+                fail(reason);
+            }
+        }
+
+        run() {
             const address = named('address').value;
             const shown = runs.run(this.record, address, this.lines.texts(), this.budget);
             this.shown = shown;
@@ -152,20 +168,29 @@ const page = (() => {
             if (named('said').textContent !== text) named('said').textContent = text;
         }
 
+        // The exercise as it was opened, and the codes as they stand.
+        restore() {
+            this.set(Object.assign({}, this.task, { codes: this.lines.texts() }));
+            this.lines.focus(0);
+        }
+
         linkOf({ record, at, codes: texts, title, task, answer: wanted }) {
             return links.write({ record: bytes.typed(record), at, codes: texts, title, task, wanted: bytes.typed(wanted) });
         }
 
         listExercises() {
-            fill(named('exercise-list'), ...exercises.map((exercise) => {
+            fill(named('exercise-list'), ...exercises.map((exercise, i) => {
                 const chips = exercise.teaches.map((code) => make('span', { class: 'chip', text: code }));
-                return make('li', {}, make('a', { href: this.linkOf(exercise) }, make('span', { class: 'name', text: exercise.title }), ' ', ...chips));
+                const name = make('span', { class: 'name', text: i + 1 + '. ' + exercise.title });
+                return make('li', {}, make('a', { href: this.linkOf(exercise) }, name, ' ', ...chips));
             }));
         }
 
-        // Which exercise of the list a link has opened, -1 for none.
+        // Which exercise of the list a link has opened, -1 for none; one that a teacher made of it is another.
         exerciseOpened() {
-            return exercises.findIndex(({ title, record }) => title === this.task.title && bytes.same(bytes.typed(record), this.record));
+            const { title, task, wanted, record, at } = this.task;
+            const link = links.write({ title, task, wanted, record, at, codes: [] });
+            return exercises.findIndex((exercise) => this.linkOf(Object.assign({}, exercise, { codes: [] })) === link);
         }
 
         showTask() {
@@ -175,11 +200,18 @@ const page = (() => {
             named('task').hidden = !(title || task || wanted);
             // the list makes room for the task
             if (!named('task').hidden) named('exercises').open = false;
+            const { teaches = [] } = exercises[number] || {};
+            fill(named('task-codes'), ...teaches.map((code) => make('a', { class: 'chip', href: '#' + this.sectionNamed(code), text: code })));
             named('task-title').textContent = (number >= 0 ? number + 1 + '. ' : '') + (title || 'Exercise');
             document.title = (title ? title + ' - ' : '') + 'Practice: dictionary codes';
-            fill(named('task-text'), ...reference.inline(task));
+            fill(named('task-text'), ...drawing.spans(task));
             fill(named('wanted'), ...(wanted ? ['Wanted: ', make('code', { class: 'value' }, ...drawing.value(wanted, SAID))] : []));
             this.showExercise(number);
+        }
+
+        sectionNamed(code) {
+            const { id } = reference.codes().find(({ name }) => name === code) || {};
+            return id || reference.sectionOf(code);
         }
 
         // Of an exercise of the list, a solution and the way to the next one.
@@ -197,15 +229,26 @@ const page = (() => {
 
         // The verdict looks at bytes alone, those of the answer and of what it was got from: it is the same everywhere.
         showVerdict() {
-            const { wanted, record, at } = this.task;
+            const { wanted, record, at, budget } = this.task;
+            named('restore-box').hidden = named('solved').hidden = true;
             if (!wanted) return fill(named('verdict'));
-            const isOther = named('address').value !== at || !bytes.same(this.record, record);
+            const isOther = !this.isAt(at) || this.budget > budget || !bytes.same(this.record, record);
             const isSolved = !isOther && this.shown.refusal === 0 && bytes.same(this.shown.answer, wanted);
             const solved = 'Solved: this is the answer that is wanted, in ' + words.counted(this.shown.steps, 'step') + '.';
-            const text = isSolved ? solved : isOther ? 'Record and address are no longer those of the exercise.' : 'Not yet the answer that is wanted.';
+            const text = isSolved ? solved : isOther ? 'Record, address and budget are no longer those of the exercise.' : 'Not yet the answer that is wanted.';
             named('verdict').classList.toggle('solved', isSolved);
             if (named('verdict').textContent !== text) named('verdict').textContent = text;
+            named('restore-box').hidden = !isOther;
+            // the task may be out of sight where the codes are typed
+            fill(named('solved'), ...(isSolved ? ['Solved. ', ...Array.from(named('task-next').childNodes, (node) => node.cloneNode(true))] : []));
+            named('solved').hidden = !isSolved;
             if (isSolved && this.exercise >= 0) this.markSolved(named('exercise-list').children[this.exercise]);
+        }
+
+        // 01,0,0 is 1,0,0 too.
+        isAt(text) {
+            const [here, there] = [bytes.address(named('address').value), bytes.address(text)];
+            return here && there ? words.address(here) === words.address(there) : named('address').value === text;
         }
 
         markSolved(item) {
@@ -214,12 +257,19 @@ const page = (() => {
         }
 
         toggleReference(isOpen) {
-            if (isOpen && !named('reference-text').firstChild) reference.draw(named('reference-text'));
+            if (isOpen && !named('reference-text').firstChild) this.drawReference();
             if (named('reference').hidden !== isOpen) return;
+            if (isOpen) this.before = document.activeElement;
             named('reference').hidden = !isOpen;
             document.body.classList.toggle('with-reference', isOpen);
             named('open-reference').setAttribute('aria-expanded', String(isOpen));
-            named(isOpen ? 'reference-words' : 'open-reference').focus();
+            if (isOpen) named('reference-words').focus();
+            else if (this.before && this.before.isConnected) this.before.focus();
+        }
+
+        drawReference() {
+            reference.draw(named('reference-text'));
+            fill(named('reference-codes'), ...reference.codes().map(({ name, id }) => make('a', { class: 'chip', href: '#' + id, text: name })));
         }
 
         explain(code) {
@@ -230,8 +280,9 @@ const page = (() => {
             this.toggleReference(true);
             named('reference-words').value = '';
             this.lookFor('');
-            named('reference-text').focus();
-            if (named(id)) named(id).scrollIntoView();
+            const heading = named(id) || named('reference-text');
+            heading.focus();
+            heading.scrollIntoView();
         }
 
         lookFor(text) {
@@ -239,15 +290,18 @@ const page = (() => {
             named('reference-found').textContent = found === 0 ? 'Nothing holds these words.' : '';
         }
 
-        // A link to a part of the reference opens it, also where the part is not drawn yet; and one that was followed before begins anew.
+        // A link to a part of the reference opens it, also where the part is not drawn yet, and the one to the codes only goes there. Before any other
+        // is followed, what stands here is kept where the browser's Back finds it.
         follow(event) {
             const link = event.target.closest('a[href^="#"]');
-            if (!link) return;
+            if (!link || event.ctrlKey || event.metaKey || event.shiftKey) return;
             const target = link.getAttribute('href');
-            if (target.startsWith('#ref')) {
-                event.preventDefault();
-                this.openReferenceAt(target.slice(1));
-            } else if (target === window.location.hash) this.openLink();
+            const isWithin = target.startsWith('#ref') || target === '#codes-title';
+            if (isWithin) event.preventDefault();
+            if (target.startsWith('#ref')) this.openReferenceAt(target.slice(1));
+            else if (isWithin) named('codes-title').focus();
+            else window.history.replaceState(null, '', links.write(this.state()));
+            if (target === window.location.hash) this.openLink();
         }
 
         toggleLink() {
@@ -270,7 +324,11 @@ const page = (() => {
                 budget: this.budget,
                 wanted: refusal === 0 ? data : null,
             };
+            const isFile = window.location.protocol === 'file:';
             named('link-text').value = window.location.href.split('#')[0] + links.write(said);
+            named('link-copied').textContent = '';
+            named('link-note').textContent = (refusal === 0 ? '' : 'The codes are refused, so that no answer is wanted. ')
+                + (isFile ? 'This page was opened from a file: elsewhere put the part from # on behind the address of the page there.' : '');
         }
 
         async copyLink() {
@@ -280,6 +338,13 @@ const page = (() => {
             const isCopied = byClipboard || document.execCommand('copy');
             named('link-copied').textContent = isCopied ? 'Copied.' : 'Select it and copy it by hand.';
         }
+    }
+
+    function fail(reason) {
+        named('failure').hidden = false;
+        named('failure').textContent = 'The page cannot go on, and has to be loaded anew: ' + reason.message;
+        fill(document.querySelector('main'));
+        throw reason;
     }
 
     // The module in base64, as bytes.
@@ -292,10 +357,6 @@ const page = (() => {
         return shown;
     }
 
-    const ready = start();
-    ready.catch((reason) => {
-        named('failure').hidden = false;
-        named('failure').textContent = 'The page could not start: ' + reason.message;
-    });
+    const ready = start().catch(fail);
     return { ready };
 })();

@@ -8,7 +8,7 @@ const reference = (() => {
     const ALGEBRA_PART = 'The A code';
     const LIST = { id: 'ref-list-of-refusals', title: 'The list of refusals', level: 1 + BELOW };
     // Where the documents stand in the page: the names of their files say nothing there.
-    const HOMES = { 'REFUSALS.md': ['list of refusals', LIST.id], 'docs/CODES.md': ['reference', 'ref-the-codes'] };
+    const HOMES = new Map([['REFUSALS.md', ['list of refusals', LIST.id]], ['docs/CODES.md', ['reference', 'ref-the-codes']]]);
     // Letters of codes that are in none of the headings: "Of SMA:301 these are left out", and an M that goes no further.
     const OVERVIEW = /^[MCRS]/;
 
@@ -19,8 +19,9 @@ const reference = (() => {
     const PIECE = /^(?:'([^']*)'|"((?:[^"\\$`!]|\\[$"\\`])*)"|([A-Za-z0-9^.,:/_+-]+))/;
     const EXAMPLE_HEADS = 'record,code,prints';
 
-    // What each section that is drawn is searched by.
+    // What each section that is drawn is searched by: its text, and the name of its code or elm.
     const texts = new WeakMap();
+    const names = new WeakMap();
     let parsed = null;
 
     const element = (name, given, children) => drawing.make(name, given, ...children);
@@ -83,8 +84,8 @@ const reference = (() => {
 
     // A link to one of the documents; `first` where a sentence begins with it. A link to anything else is its text alone.
     function linkTo(target, text, first) {
-        if (!HOMES[target]) return text;
-        const [name, id] = HOMES[target];
+        if (!HOMES.has(target)) return text;
+        const [name, id] = HOMES.get(target);
         return element('a', { href: '#' + id }, [(first ? 'The ' : 'the ') + name]);
     }
 
@@ -197,8 +198,9 @@ const reference = (() => {
     }
 
     // A section with its heading, and what stands in it before its own sections, which is hidden by itself where it does not hold the words.
-    function drawSection({ id, level, heading }, nodes, text) {
-        const made = element('section', {}, [element('h' + level, { id }, inline(heading)), element('div', { class: 'body' }, nodes)]);
+    function drawSection({ id, level, heading, name }, nodes, text) {
+        const made = element('section', {}, [element('h' + level, { id, tabindex: '-1' }, inline(heading)), element('div', { class: 'body' }, nodes)]);
+        names.set(made, name);
         texts.set(made, unmarked(heading + ' ' + text).toLowerCase());
         return made;
     }
@@ -241,20 +243,37 @@ const reference = (() => {
         return found || (OVERVIEW.test(typed) ? named(CODES_PART, whole) : null);
     }
 
-    // Hides what does not hold all the words, in capitals or not; a section is shown for the sake of those inside it. Gives how many hold them.
+    // How a code is written: the first point of its section, where it has one.
+    function form(id) {
+        const { blocks } = sections().find((section) => section.id === id);
+        const points = blocks.find(({ kind }) => kind === 'list');
+        return points ? Array.from(list(points.lines).firstChild.childNodes) : [];
+    }
+
+    // The codes with a section of their own, and the A code.
+    const codes = () => sections().filter(({ part, name }) => part === CODES_PART && name !== '').map(({ name, id }) => ({ name, id }))
+        .concat([{ name: 'A', id: named(ALGEBRA_PART, ({ name }) => name === '') }, { name: 'refusals', id: LIST.id }]);
+
+    // The name of a code or an elm, as headings have it: any attribute is n.
+    const nameIn = (words) => words.trim().toUpperCase().replace(/^[0-9]+(?=R*$)/, 'n');
+
+    // Hides what does not hold all the words, in capitals or not; the name of a code or an elm is looked for in headings alone. A section is shown for
+    // the sake of those inside it. Gives how many hold them.
     function filter(box, words) {
         const wanted = words.toLowerCase().split(/\s+/).filter(Boolean);
+        const name = nameIn(words);
+        const isName = sections().some((section) => section.name === name && name !== '');
+        const holds = (section) => (isName ? names.get(section) === name : wanted.every((word) => texts.get(section).includes(word)));
         let holding = 0;
         // those inside a section come behind it, and so before it from the end
         Array.from(box.querySelectorAll('section')).reverse().forEach((section) => {
-            const holds = wanted.every((word) => texts.get(section).includes(word));
             const children = Array.from(section.children);
-            children.filter((child) => child.className === 'body').forEach((body) => { body.hidden = !holds; });
-            section.hidden = !holds && !children.some((child) => child.tagName === 'SECTION' && !child.hidden);
-            if (holds) holding++;
+            children.filter((child) => child.className === 'body').forEach((body) => { body.hidden = !holds(section); });
+            section.hidden = !holds(section) && !children.some((child) => child.tagName === 'SECTION' && !child.hidden);
+            if (holds(section)) holding++;
         });
         return holding;
     }
 
-    return { draw, inline, sectionOf, filter };
+    return { draw, inline, sectionOf, form, codes, filter };
 })();

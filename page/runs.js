@@ -1,7 +1,7 @@
 'use strict';
 // What the page asks of the calls: an answer with what stands after each line, and of a refusal the line and the element that caused it.
 const runs = (() => {
-    // Refused before anything runs; while it runs; behind the run.
+    // Refused before anything runs, and while it runs.
     const BAD_CODE = [6, 7];
     const IN_RUN = (refusal) => refusal >= 9 && refusal <= 15;
     const ran = (refusal) => refusal === 0 || refusal >= 9;
@@ -13,7 +13,7 @@ const runs = (() => {
             line.formula = sundewfrill.algebra(line.code);
             if (line.formula.refusal === 0) line.code = line.formula.answer;
         }
-        // 6: it is not one D code; whatever else is told, it is
+        // one D code: no text at all does not fit it, and a code that is none is 6
         line.isDate = text[0] === 'D' && sundewfrill.typedDate(line.code, new Uint8Array(0)).refusal === 12;
         return line;
     }
@@ -63,17 +63,23 @@ const runs = (() => {
     function meant(text) {
         const parts = text.match(/'[^']*'|"[^"]*"|[^'"]+|['"]/g) || [];
         const mended = (mend) => parts.map((part) => (/^['"]/.test(part) ? part : mend(part.toUpperCase()))).join('');
-        const ways = [mended((part) => part), mended((part) => part.replace(/\s+/g, ''))];
+        const capitals = mended((part) => part);
+        const ways = [capitals, mended((part) => part.replace(/\s+/g, '')), capitals.replace(/^F(?!;)/, 'F;')];
         return ways.find((way) => way !== text && way !== '' && verdict(way) === 0) || null;
+    }
+
+    // Several codes in one line, parted by something else than lines are.
+    function severalIn(text) {
+        const codes = text.split(/[\s\],;]+/).filter(Boolean);
+        return codes.length > 1 && codes.every((code) => verdict(code) === 0) ? codes : null;
     }
 
     // The bad line of a string that is refused with 6 or 7; what an A code is refused with is told in place of the 6 that it would be as a code.
     function badLine(lines, refusal) {
-        const at = sundewfrill.check(stringOf(lines)).codeNumber - 1;
-        const line = lines[Math.min(at, lines.length - 1)];
-        const told = line.formula ? line.formula.refusal : refusal;
+        const line = lines.find(({ code }) => sundewfrill.check(code).refusal !== 0);
+        const told = (line.formula && line.formula.refusal) || refusal;
         const isF = line.text.startsWith('F;');
-        return { line, refusal: told, elm: isF ? badElm(line.text, refusal) : null, meant: told === 6 ? meant(line.text) : null };
+        return { line, refusal: told, elm: isF ? badElm(line.text, refusal) : null, meant: meant(line.text), several: severalIn(line.text) };
     }
 
     // The first element whose turn is refused, where codes look at nothing but their element: by halves, each over a record of the first elements.
@@ -130,12 +136,13 @@ const runs = (() => {
         return after;
     }
 
-    // Converting with the first lines alone, as far as they are codes; with all of them that is the run itself.
+    // Converting with the first lines alone, as far as they are codes and the budget goes; with all of them that is the run itself.
     function afterEach({ record, coded, at, budget, bad }, whole) {
         const end = bad ? coded.indexOf(bad.line) : coded.length;
-        coded.slice(0, end).forEach((line, i) => {
-            line.after = i + 1 === coded.length ? whole : sundewfrill.convert(record, stringOf(coded.slice(0, i + 1)), at, budget);
-        });
+        for (let i = 0; i < end; i++) {
+            coded[i].after = i + 1 === coded.length ? whole : sundewfrill.convert(record, stringOf(coded.slice(0, i + 1)), at, budget);
+            if (coded[i].after.refusal === 15) return;
+        }
     }
 
     // All that the page shows of a record, an address as it is typed, the lines, and a budget.

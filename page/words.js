@@ -15,6 +15,9 @@ const words = (() => {
 
     const address = ({ a, v, s }) => a + ',' + v + ',' + s;
 
+    // Which element was refused in its turn.
+    const refusedAt = ({ elements, culprit }) => 'It is the element at ' + address(elements.place(culprit.index));
+
     // What an address names.
     function place(at) {
         if (at.a === 0) return 'the id';
@@ -33,5 +36,5 @@ const words = (() => {
         return 'The value or the subvalue is over 32,768.';
     }
 
-    return { sentences, number, counted, address, place, badAddress };
+    return { sentences, number, counted, address, refusedAt, place, badAddress };
 })();
