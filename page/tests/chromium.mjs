@@ -53,12 +53,12 @@ class Pipe {
 }
 
 class Page {
-    constructor(pipe, target, session) {
-        Object.assign(this, { pipe, target, session, requests: [], complaints: [], told: () => {} });
+    constructor(pipe, target, channel) {
+        Object.assign(this, { pipe, target, channel, requests: [], complaints: [], told: () => {} });
     }
 
     send(method, params) {
-        return this.pipe.send(method, params, this.session);
+        return this.pipe.send(method, params, this.channel);
     }
 
     // What the browser tells of this page.

@@ -43,8 +43,8 @@ inEachBrowser((browser, name) => {
 
     const opened = async (url) => {
         const page = await browser().open(url);
-        // the last script has run, and what it began has gone on
-        await page.until(() => document.readyState === 'complete' && new Promise((seen) => requestAnimationFrame(() => seen(true))));
+        await page.evaluate(() => page.ready.then(() => true));
+        assert.equal(await page.evaluate(() => document.getElementById('said').textContent), 'Answer $300.00]$25.00\\$30.00, 345 steps');
         return page;
     };
 

@@ -8,7 +8,6 @@ const trying = (() => {
     const EXACT = BigInt(Number.MAX_SAFE_INTEGER);
     // Of more than 32 bits, and of 64 at most.
     const GREAT = /^[0-9]{10,20}$/;
-    const TRIES = 9;
     const NOISE_TURN = 251;
     const SHOWN = 5;
     const noise = Uint8Array.from({ length: 65536 + NOISE_TURN }, (_, place) => (Math.imul(place + 1, 0x9e3779b1) >>> 16) % 255 + 1);
@@ -27,19 +26,17 @@ const trying = (() => {
         return big || value > EXACT ? value : Number(value);
     }
 
-    // The page's calls on an instance whose memory can be looked at. The page may be loading another one just now, so that it is tried out.
+    // The page's calls on an instance whose memory can be looked at: the first that is made, since the second is the spare one.
     async function begin() {
+        await page.ready;
         const module = Uint8Array.from(atob(MODULE), (letter) => letter.charCodeAt(0));
         const instantiate = WebAssembly.instantiate;
         WebAssembly.instantiate = async (...given) => {
             const made = await instantiate(...given);
-            library = made.exports;
+            library = library || made.exports;
             return made;
         };
-        for (let tries = 0; tries < TRIES && (!library || changed([noise.subarray(0, 99)])); tries++) {
-            await sundewfrill.load(module);
-            sundewfrill.check(noise.subarray(0, 99));
-        }
+        await sundewfrill.load(module);
         WebAssembly.instantiate = instantiate;
     }
 
