@@ -32,7 +32,8 @@ const answer = (() => {
     }
 
     // What is known of a refusal that no line caused.
-    function known(shown, record, addressText) {
+    function known(shown, addressText) {
+        const { record } = shown;
         const size = (data) => words.counted(data.length, 'byte');
         switch (shown.refusal) {
             case 1: return [['The record has ' + size(record) + '.']];
@@ -57,13 +58,13 @@ const answer = (() => {
             this.list = rows.create(this.table, (index) => this.drawRow(index));
         }
 
-        show(shown, record, addressText) {
+        show(shown, addressText) {
             const refused = shown.culprit ? shown.culprit.index : -1;
             const isNew = refused >= 0 && refused !== this.refused;
             Object.assign(this, { shown, refused });
             const isDone = shown.refusal === 0;
             this.box.classList.toggle('refused', !isDone);
-            fill(this.value, ...(isDone ? this.drawValue(shown.answer) : this.drawRefusal(shown, record, addressText)));
+            fill(this.value, ...(isDone ? this.drawValue(shown.answer) : this.drawRefusal(shown, addressText)));
             this.steps.textContent = stepsText(shown);
             drawMeter(this.meter, shown);
             this.showTable();
@@ -75,9 +76,9 @@ const answer = (() => {
         }
 
         // A line that caused it has the whole of it at its place.
-        drawRefusal(shown, record, addressText) {
+        drawRefusal(shown, addressText) {
             const line = shown.bad ? shown.bad.line : shown.culprit && shown.culprit.line;
-            if (!line) return drawing.refusal(shown.refusal, known(shown, record, addressText));
+            if (!line) return drawing.refusal(shown.refusal, known(shown, addressText));
             const number = shown.lines.indexOf(line) + 1;
             const where = 'Code ' + number + (shown.culprit ? ', on the element at ' + placeOf(shown) : '') + '. What to do stands there.';
             return drawing.refusal(shown.refusal).slice(0, 1).concat([make('p', { class: 'known', text: where })]);

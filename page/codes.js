@@ -83,7 +83,6 @@ const codes = (() => {
             const isBad = (shown.bad && shown.bad.line === line) || (shown.culprit && shown.culprit.line === line);
             this.node.classList.toggle('bad', Boolean(isBad));
             this.input.setAttribute('aria-invalid', isBad ? 'true' : 'false');
-            this.about.disabled = reference.sectionOf(this.input.value) === null;
             this.date.node.hidden = !line.isDate;
             if (line.isDate) this.showDay();
             const formula = line.formula && line.formula.refusal === 0

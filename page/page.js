@@ -12,7 +12,7 @@ const page = (() => {
         constructor() {
             this.record = new Uint8Array(0);
             this.budget = links.BUDGET;
-            this.task = { title: '', task: '', wanted: null };
+            this.task = { title: '', task: '', wanted: null, record: this.record, at: '', budget: this.budget };
             this.exercise = -1;
             this.grid = new grid.Grid(named('grid'), {
                 head: named('grid-head'), more: named('grid-more'), range: named('grid-range'), earlier: named('grid-earlier'), later: named('grid-later'),
@@ -53,10 +53,10 @@ const page = (() => {
             document.addEventListener('keydown', (event) => event.key === 'Escape' && !event.defaultPrevented && this.toggleReference(false));
         }
 
-        // What stands on the page, as a link says it.
+        // What stands on the page, as a link says it. An exercise keeps its own record, address and budget, since its verdict goes by them.
         state() {
-            const { title, task, wanted } = this.task;
-            return { title, task, wanted, record: this.record, at: named('address').value, codes: this.lines.texts(), budget: this.budget };
+            const here = { record: this.record, at: named('address').value, budget: this.budget };
+            return Object.assign({}, this.task, this.task.wanted ? {} : here, { codes: this.lines.texts() });
         }
 
         // What a link says; without one, the lesson's invoice.
@@ -149,7 +149,7 @@ const page = (() => {
             named('address-words').textContent = shown.elements === null ? '' : this.placeText(shown);
             this.grid.show(this.record, shown.elements && shown.at, shown.culprit && shown.elements.place(shown.culprit.index));
             this.lines.show(shown);
-            this.answer.show(shown, this.record, address);
+            this.answer.show(shown, address);
             this.showVerdict();
             this.say();
             if (!named('link').hidden) this.showLink();
@@ -273,7 +273,7 @@ const page = (() => {
         }
 
         explain(code) {
-            this.openReferenceAt(reference.sectionOf(code));
+            this.openReferenceAt(reference.sectionOf(code) || reference.OVERVIEW_ID);
         }
 
         openReferenceAt(id) {

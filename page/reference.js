@@ -7,8 +7,9 @@ const reference = (() => {
     const ELMS_PART = 'The elms of F';
     const ALGEBRA_PART = 'The A code';
     const LIST = { id: 'ref-list-of-refusals', title: 'The list of refusals', level: 1 + BELOW };
+    const OVERVIEW_ID = 'ref-the-codes';
     // Where the documents stand in the page: the names of their files say nothing there.
-    const HOMES = new Map([['REFUSALS.md', ['list of refusals', LIST.id]], ['docs/CODES.md', ['reference', 'ref-the-codes']]]);
+    const HOMES = new Map([['REFUSALS.md', ['list of refusals', LIST.id]], ['docs/CODES.md', ['reference', OVERVIEW_ID]]]);
     // Letters of codes that are in none of the headings: "Of SMA:301 these are left out", and an M that goes no further.
     const OVERVIEW = /^[MCRS]/;
 
@@ -275,5 +276,5 @@ const reference = (() => {
         return holding;
     }
 
-    return { draw, inline, sectionOf, form, codes, filter };
+    return { OVERVIEW_ID, draw, inline, sectionOf, form, codes, filter };
 })();

@@ -19,15 +19,13 @@ test('the question mark of a line opens it at its code', async (t) => {
     const page = await on(t, linkOf('K1^1'));
     const codes = [
         ['F;1', /^F: /], ['MCT', /MCT/], ['MR2,$', /MR/], ['T2', /^T/], ['G1-1', /^G/], ['D2/', /^D/], ['P(1N)', /^P/], ['L', /^L/], ['MX', /MX/],
-        ['A1+2', /^The A code/],
+        ['A1+2', /^The A code/], ['?', /^The codes/],
     ];
     for (const [code, heading] of codes) {
         await typeCodes(page, [code]);
         await page.click('[aria-label="About code 1 in the reference"]');
         assert.match(String(await topHeading(page)), heading, code);
     }
-    await typeCodes(page, ['?']);
-    assert.equal(await page.evaluate(() => document.querySelector('#codes .small').disabled), true, 'of what is no code there is nothing');
 });
 
 test('the words that are looked for are in what is left', async (t) => {

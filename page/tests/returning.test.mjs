@@ -21,6 +21,19 @@ test('codes that were typed stand there again when the browser goes back', async
     assert.deepEqual([lines.map(({ code }) => code), record], [['T4', 'MCU'], SHELF]);
 });
 
+test('an exercise is not solved by an answer in its record, behind Back neither', async (t) => {
+    const page = await open(t, linkOf('K1^5', '1,0,0', [''], { title: 'Mine', wanted: '0.05' }));
+    await retype(page, '#record', 'K1^0.05');
+    assert.match((await seen(page)).verdict, /no longer/);
+    await page.click('#exercises summary');
+    await page.click('#exercise-list li:nth-child(1) a');
+    await page.until(titleIs, '1. Shelf numbers');
+    await page.evaluate(() => window.history.back());
+    await page.until(titleIs, 'Mine');
+    const { verdict, record } = await seen(page);
+    assert.deepEqual([verdict, record], ['Not yet the answer that is wanted.', 'K1^5']);
+});
+
 test('the link to the codes goes there, and leaves the exercise as it is', async (t) => {
     const page = await open(t, linkOf('K1^5', '1,0,0', ['MR2'], { title: 'Mine' }));
     await page.press('Tab');
