@@ -57,8 +57,14 @@ const codes = (() => {
             const which = words.refusedAt(shown) + '. This code was given ';
             const size = ', ' + words.counted(given.length, 'byte') + '.';
             const element = [which, make('code', {}, ...drawing.value(given, SHOWN)), size];
-            const enough = ['A budget of ' + words.number(shown.ceiling) + ', which is the ceiling, is always enough here.'];
-            return shown.refusal === 15 ? [element, enough] : [element];
+            return shown.refusal === 15 ? [element, [this.enough(shown)]] : [element];
+        }
+
+        // The budget that is always enough, where the page takes it.
+        enough({ ceiling }) {
+            const most = words.number(ceiling);
+            if (ceiling <= links.MOST_BUDGET) return 'A budget of ' + most + ', which is the ceiling, is always enough here.';
+            return 'The ceiling is ' + most + ', and the page takes no budget over ' + words.number(links.MOST_BUDGET) + '.';
         }
 
         knownOfElm({ line, elm }) {

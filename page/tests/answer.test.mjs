@@ -95,6 +95,16 @@ test('when something goes wrong no old answer is left standing', async (t) => {
     assert.equal((await page.complained()).length, 1);
 });
 
+test('a refusal for budget tells the budget that is always enough, where the page takes it', async (t) => {
+    const told = async (record) => {
+        const page = await open(t, linkOf(record, '1,0,0', ['F;1;1;+'], { budget: '30' }));
+        return (await seen(page)).lines[0].refusal[2];
+    };
+    assert.equal(await told('K1^10]20^3'), 'A budget of 12,334, which is the ceiling, is always enough here.');
+    // 15,001 x (2 x (1,025 + 15,003) + 4,097)
+    assert.equal(await told('K1^' + ']'.repeat(15000)), 'The ceiling is 542,331,153, and the page takes no budget over 100,000,000.');
+});
+
 test('a budget is no larger than the page can keep up with, by a link neither', async (t) => {
     const page = await open(t, linkOf('K1^1', '1,0,0', ['F;1'], { budget: '999999999' }));
     const budget = () => page.evaluate(() => [document.getElementById('budget').value, document.getElementById('budget-words').textContent]);
