@@ -258,6 +258,7 @@ module _ (e : Expression) (fs : All Fine (elms-in e)) (short : length (f-text e)
   unfolding lawful
   text-faulty full = text-judged ∙ rw full
 
-  -- The check accepts it, or refuses it with 7: by `entries-exactly` exactly where `deepest`, the most entries that its elms hold, is more than 16.
+  -- The check accepts it, or refuses it with 7: by `entries-exactly` exactly where `deepest`, the most entries that its elms hold, is more than 16. So it is
+  -- never 18 (document 02, L5).
   pub text-checked : (check (f-text e) ≡ accepted (Code.function (f-elms e) ∷ [])) ⊎ (check (f-text e) ≡ faulty stack-fault 1)
   text-checked = ⊎-elim (λ room. inl (text-accepted room)) (λ full. inr (text-faulty full)) (one-entry-more e 0)

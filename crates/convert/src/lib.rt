@@ -133,7 +133,7 @@ fn refusal_in(verdict: Verdict) -> u64
     }
 }
 
-// "Converting: 1, 2, 3, 4, 5, 6 or 7, 8, then the run, then 16."
+// "Converting: 1, 2, 3, 4, 5, 6 or 7, 8, then the run, then 16.", and 18 where 6 and 7 stand
 pub fn convert<'a>(
     item: &'a [u8],
     code: &'a [u8],

@@ -1,15 +1,16 @@
 -- One code: its elms turn by turn, and the whole of it.
 use Prim.Native.Nat.{ℕ, _<_, _≤_, _+_}
 use mathlib.Core.Path.{_≡_, refl, sym, ap, _∙_}
-use mathlib.Core.Bool.{true, false}
+use mathlib.Core.Bool.{Bool, true, false}
 use mathlib.Core.List.{List}
 use mathlib.Core.Option.{Option, none, some}
 use lib.ListN.{length, getD}
+use lib.Dec.{eqb}
 use native.Mathlib.Omega.{arith}
-use Rattle.paper.specs.Bytes.{Bytes, any}
+use Rattle.paper.specs.Bytes.{Bytes, if_then_else_, any}
 use Rattle.paper.specs.Sizes.{is-mark}
 use Rattle.paper.specs.Grammar as paper
-use Rattle.paper.specs.Refusals.{Res, given, refused, _>>=_, _>>_}
+use Rattle.paper.specs.Refusals.{Res, given, refused, _>>=_, _>>_, refuse_unless_}
 use Rattle.paper.specs.Codes as codes
 use Rattle.paper.specs.Checking.{all-stacked, lawful, in-grammar, judged, elms-counts, code-counts, step-counts}
 use Rattle.codes.specs.Meaning.{elm-of}
@@ -75,8 +76,13 @@ unfolding judging finished judged-of lawful code-counts
 judging-elms none = refl
 judging-elms (some es) = rw (tallied es none-yet, none-added (elms-counts es)) (go (all-stacked es 0))
   where
-    go : (r : Res ℕ) → judged-of ((r >> given (tt {0})) >> given (codes.function es)) ≡ told false r (counts-in (elms-counts es))
-    go (given n) = refl
+    one : (t : Bool) → judged-of ((refuse 18 unless t) >> given (codes.function es))
+        ≡ (if t then Judged.Lawful (counts-in (elms-counts es)) else Judged.Faulty 18)
+    one true = refl
+    one false = refl
+
+    go : (r : Res ℕ) → judged-of ((r >>= λ n. refuse 18 unless eqb n 1) >> given (codes.function es)) ≡ told false r (counts-in (elms-counts es))
+    go (given n) = one (eqb n 1)
     go (refused n) = refl
 
 module _ (s : Bytes) where

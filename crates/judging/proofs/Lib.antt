@@ -4,4 +4,5 @@ pub mod Scans
 pub mod Turns
 pub mod Sizes
 pub mod Walking
+pub mod LeftOver
 pub mod Settled

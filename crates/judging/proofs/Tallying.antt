@@ -3,7 +3,7 @@ use Prim.Native.Nat.{ℕ, _≤_, _+_}
 use mathlib.Core.Path.{_≡_, refl, ap, _∙_}
 use mathlib.Core.Bool.{Bool, true, false, _&&_}
 use mathlib.Core.List.{List, [], _∷_}
-use lib.Dec.{leb}
+use lib.Dec.{leb, eqb}
 use native.Mathlib.Nat.{add-zero, zero-add, add-assoc}
 use native.Mathlib.Omega.{arith}
 use borrow.Author.Tests.{leb-true}
@@ -55,7 +55,8 @@ kind-back (paper.testing t) = refl
 kind-back paper.other = refl
 
 -- the paper's check of one elm, by whether it has room
-stacked-room : (e : paper.Elm) (held : ℕ) → let z = shape-in (checking.shape e) in checking.stacked e held ≡ (if room z held then given (left z held) else refused 7)
+pub stacked-room : (e : paper.Elm) (held : ℕ) → let z = shape-in (checking.shape e) in
+    checking.stacked e held ≡ (if room z held then given (left z held) else refused 7)
 unfolding checking.stacked room
 stacked-room e held = let z = shape-in (checking.shape e) in go (leb (z .takes) held) (leb (left z held) 16) (left z held)
   where
@@ -67,14 +68,15 @@ stacked-room e held = let z = shape-in (checking.shape e) in go (leb (z .takes) 
 -- a fault that was met before, or what is met from here on
 abbrev pub told : Bool → Res ℕ → Counts → Judged
 told true r c = Judged.Faulty 7
-told false (given held) c = Judged.Lawful c
+told false (given held) c = if eqb held 1 then Judged.Lawful c else Judged.Faulty 18
 told false (refused n) c = Judged.Faulty n
 
 pub tallied : (es : List paper.Elm) (t : Tally) → judgement-of (tally-all es t) ≡ told (t .faulty) (checking.all-stacked es (t .held)) (added (t .counts) (checking.elms-counts es))
 unfolding tally-all checking.all-stacked checking.elms-counts judgement-of tally-after entries-after
 tallied [] t = rw (added-none (t .counts)) (go (t .faulty))
   where
-    go : (f : Bool) → (if f then Judged.Faulty 7 else Judged.Lawful (t .counts)) ≡ told f (given (t .held)) (t .counts)
+    go : (f : Bool) → (if f then Judged.Faulty 7 else (if eqb (t .held) 1 then Judged.Lawful (t .counts) else Judged.Faulty 18))
+        ≡ told f (given (t .held)) (t .counts)
     go true = refl
     go false = refl
 tallied (e ∷ es) t =

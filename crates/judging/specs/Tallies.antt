@@ -2,10 +2,10 @@
 use Prim.Native.Nat.{ℕ, _+_, _-_}
 use mathlib.Core.Bool.{Bool, true, false, _&&_}
 use mathlib.Core.List.{List, [], _∷_}
-use lib.Dec.{leb}
+use lib.Dec.{leb, eqb}
 use Rattle.paper.specs.Bytes.{if_then_else_}
 use Rattle.paper.specs.Sizes.{stack-most}
-use Rattle.paper.specs.Refusals.{stack-fault}
+use Rattle.paper.specs.Refusals.{stack-fault, left-over-entries}
 use Rattle.paper.specs.Codes as paper
 use Rattle.paper.specs.Checking as checking
 use Rattle.judging.specs.declared.Counts.{Counts}
@@ -77,4 +77,6 @@ tally-all (e ∷ es) t = tally-all es (tally-after e t)
 
 -- a whole F code: its faults in their order, and then its steps
 unfoldable pub judgement-of : Tally → Judged
-judgement-of t = if t .faulty then Judged.Faulty stack-fault else Judged.Lawful (t .counts)
+judgement-of t =
+    if t .faulty then Judged.Faulty stack-fault
+    else (if eqb (t .held) 1 then Judged.Lawful (t .counts) else Judged.Faulty left-over-entries)

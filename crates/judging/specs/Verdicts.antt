@@ -16,7 +16,7 @@ use Rattle.judging.specs.declared.Tally.{Tally}
 use Rattle.judging.specs.declared.Judged.{Judged}
 use Rattle.judging.specs.declared.Verdict.{Verdict}
 
--- one code: A, B, P and T of it, or its fault, 6 or 7
+-- one code: A, B, P and T of it, or its fault, 6, 7 or 18
 unfoldable pub judged-of : Res paper.Code → Judged
 judged-of (given c) = Judged.Lawful (counts-in (code-counts c))
 judged-of (refused n) = Judged.Faulty n

@@ -27,7 +27,7 @@ ghost use Rattle.grammar.specs.Heads.{elms-from};
 ghost use Rattle.judging.specs.Tallies.{none-yet};
 ghost use Rattle.judging.specs.Verdicts.{finished, judged-of, stray, verdict-of};
 
-// The elms of an F code: 6 is decided on the whole of it, and 7 only then.
+// The elms of an F code: 6 is decided on the whole of it, and 7 and 18 only then.
 fn judge_elms(code: &[u8], first: usize) -> Judged
     requires { ⌜ first ≤ length (now code) ⌝ }
     ensures { λ r. ⌜ r ≡ finished (elms-from (now (code .entry)) first) none-yet ⌝ }
@@ -76,7 +76,7 @@ fn stray(code: &[u8], at: usize) -> bool
     }
 }
 
-// "then the first bad code, 6 or 7, with that code's number from 1"
+// "then the first bad code, 6 or 7", or 18, "with that code's number from 1"
 pub(crate) fn check_codes(code: &[u8]) -> Verdict
     ensures { λ r. ⌜ r ≡ verdict-of (judged-all 1 (split value-mark (now (code .entry)))) ⌝ }
 {

@@ -1,4 +1,4 @@
-// Document 01, "The code grammar" (refusal 7) and "Steps" (A and B), and document 02, L1: the shape of an elm, and what the elms of an F code come to.
+// Document 01, "The code grammar" (refusal 7) and "Steps" (A and B), and document 02, L1 and L5: the shape of an elm, and what the elms of an F code come to.
 use crate::Counts;
 use crate::Entries;
 use crate::Judged;
@@ -208,12 +208,15 @@ pub(crate) fn tally_after(tally: Tally, elm: Elm) -> Tally
     }
 }
 
-// A whole F code: its faults in their order, and then its steps.
+// A whole F code: its faults in their order, 7 and then "an F code must end with exactly one entry"; and then its steps.
 pub(crate) fn judgement(tally: Tally) -> Judged
     ensures { λ r. ⌜ r ≡ judgement-of tally ⌝ }
 {
     if tally.faulty {
         return Judged::Faulty(paper::refusal::STACK_FAULT);
+    }
+    if tally.held != 1 {
+        return Judged::Faulty(paper::refusal::LEFT_OVER_ENTRIES);
     }
     let counts = tally.counts;
     Judged::Lawful(counts)

@@ -7,11 +7,11 @@ use Prim.Native.Nat.{ℕ, _+_, _-_, _≤_, _<_}
 use native.Mathlib.Nat.{add-zero}
 use native.Mathlib.Omega.{arith}
 use lib.ListN.{length}
-use lib.Dec.{leb}
+use lib.Dec.{leb, eqb}
 use borrow.Author.Tests.{le-leb, lt-leb, leb-true, leb-false}
 use Rattle.paper.specs.Bytes.{Bytes, if_then_else_, any}
 use Rattle.paper.specs.Sizes.{code-most, entry-most, is-mark}
-use Rattle.paper.specs.Refusals.{Res, given, refused, _>>=_, _>>_, over-budget}
+use Rattle.paper.specs.Refusals.{Res, given, refused, _>>=_, _>>_, over-budget, left-over-entries}
 use Rattle.paper.specs.declared.Given.{Given}
 use Rattle.paper.specs.Answers.{refusal-in}
 use Rattle.paper.specs.Codes.{Conversion, Elm, Code}
@@ -122,8 +122,13 @@ module _ (s : Bytes) (well : Judged-well (judged s)) where
   function-judged none e = absurd (well-given well e)
   function-judged (some es) e = go (all-stacked es 0) refl
     where
+      one : (n : ℕ) → all-stacked es 0 ≡ given n → (t : Bool) → eqb n 1 ≡ t
+          → Stacks (some es) 0 × ((c : Setting) → judged-run c (judged s) ≡ onward (read-run c (some es) []) top-entry)
+      one n f true k = (stacks f, λ c. rw (e, f, k))
+      one n f false k = absurd (well-given {n = left-over-entries} well (e ∙ rw (f, k)))
+
       go : (r : Res ℕ) → all-stacked es 0 ≡ r → Stacks (some es) 0 × ((c : Setting) → judged-run c (judged s) ≡ onward (read-run c (some es) []) top-entry)
-      go (given n) f = (stacks f, λ c. rw (e, f))
+      go (given n) f = one n f (eqb n 1) refl
       go (refused n) f = absurd (well-given {n = n} well (e ∙ rw f))
 
   pub function-code : {first : ℕ} → head s ≡ some (Head.Function first)

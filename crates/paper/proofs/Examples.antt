@@ -28,13 +28,14 @@ marked b =
     else (if eqb b (ch "]") then value-mark else (if eqb b (ch "\\") then subvalue-mark else b))
 
 -- What an example calls: converting a record at an address under a budget; its ceiling, the sum over steps, and from a check's numbers;
--- a code on an element; a check.
+-- a code on an element; a check; a check of codes with a drawn 253 between.
 data Example : Type 0 where
   converting : String → String → ℕ → ℕ → ℕ → ℕ → Example
   at-most : String → String → ℕ → ℕ → ℕ → Example
   from-counts : String → String → ℕ → ℕ → ℕ → Example
   giving : String → String → Example
   checking : String → Example
+  first-bad : String → Example
 
 abbrev without-steps : Outcome → Bytes
 without-steps o = decimal (refusal-of (o .answer)) ++ ch " " ∷ map drawn (answer-of (o .answer))
@@ -42,7 +43,7 @@ without-steps o = decimal (refusal-of (o .answer)) ++ ch " " ∷ map drawn (answ
 abbrev with-steps : Outcome → Bytes
 with-steps o = decimal (refusal-of (o .answer)) ++ ch " " ∷ decimal (o .steps) ++ ch " " ∷ map drawn (answer-of (o .answer))
 
--- What it tells: the refusal, the steps where they are asked for, and the answer, marks drawn; a ceiling; a check's refusal.
+-- What it tells: the refusal, the steps where they are asked for, and the answer, marks drawn; a ceiling; a check's refusal; the number of the bad code too.
 told : Example → Bytes
 unfolding bytes is-digit is-upper is-lower is-letter digit-value any only same-bytes is-mark is-outer-mark is-inner-mark entry-most scratch-least split join placed pieces nth path part-at whole id-of place lawful-id lawful-record lawful-address reads signed natural value sign-and-digits after-blanks before-blanks within-blanks numeric ranged number digits trimmed decimal number-text negated plus times quotient remainder below bytes-below compared holds binary-gives substring-gives this flag choose more-digits numeral num quoted closed-by class-letter count-test literal-test test tests pattern pattern-list pattern-code separator group-after group-code extract-from extract-code admit-from length-after length-code except-code character-code scales credit-letter fill-byte fill-width fill-part mask-code is-separator date-after date-code masking-code conversion repeats attribute-elm literal-elm previous-elm multiply-elm bracket-elm converting-elm operator-elm elm parted elms function-code code read of-class every is-so-many meets some-cut passes some-passes patterns-give tests-in conversion-kind shape stacked all-stacked lawful judged judged-all code-texts check together step-counts elms-counts code-counts codes-counts report checked-codes raised lowered titled hex-digit hexed hex-value unhexed plain-gives number-gives rounded scaled-size scaled grouped integer-text point-text digits-text before-digits after-digits masked-text laid-out blank-text number-masked mask-gives leap month-lengths month-names days-before-year year-of month-day date-of ranged-day year-text date-text date-gives onward stepped conversion-gives load-path operand bytes-in charged price step-ceiling top-entry limited elm-puts elm-step conversion-step elms-run code-run codes-run element-run subvalues values from-one elements-in elements-of elements elements-run within-budget lawful-place lawful-code ready run fitted finished carried-out convert elms-ceiling code-ceiling codes-ceiling ceiling-over ceiling counted-ceiling drawn printed marked
 told (converting item code a v s budget) =
@@ -58,6 +59,7 @@ told (giving code element) =
     without-steps
     (convert (map marked (bytes "K1^") ++ bytes element) (bytes code) 1 0 0 program-budget record-most scratch-least)
 told (checking code) = decimal (report (check (bytes code)) .refusal)
+told (first-bad codes) = let r = report (check (map marked (bytes codes))) in decimal (r .refusal) ++ ch " " ∷ decimal (r .code-number)
 
 -- An example and what document 01 says of it.
 record Row : Type 0 where
@@ -118,8 +120,9 @@ slips =
     ∷ row (giving "MR01Z" "-4") "0 0"
     ∷ row (giving "MR01(#1)" "25") "0 3"
     ∷ row (giving "MR01(#1)" "-25") "14 "
-    -- a checked string holds at most sixteen entries
-    ∷ row (checking "F;1;1;1;1;1;1;1;1;1;1;1;1;1;1;1;1") "0"
+    -- a checked string holds at most sixteen entries, and ends with one
+    ∷ row (checking "F;1;1;1;1;1;1;1;1;1;1;1;1;1;1;1;1") "18"
+    ∷ row (checking "F;1;1;1;1;1;1;1;1;1;1;1;1;1;1;1;1;+;+;+;+;+;+;+;+;+;+;+;+;+;+;+") "0"
     ∷ row (checking "F;1;1;1;1;1;1;1;1;1;1;1;1;1;1;1;1;1") "7"
     ∷ []
 
@@ -200,3 +203,33 @@ blanked =
 blank-examples : all-told blanked ≡ all-said blanked
 unfolding told blanked marked bytes
 blank-examples = refl
+
+-- Document 02, L5, where it can be misread
+left-over : List Row
+left-over =
+    -- "exactly one entry", by whatever elm another is left
+    row (checking "F;1;2;3;+") "18"
+    ∷ row (checking "F;1;P") "18"
+    ∷ row (checking "F;1;2;_") "18"
+    ∷ row (checking "F;1;2;3;+;+") "0"
+    ∷ row (checking "F;1;2;3;[]") "0"
+    ∷ row (checking "F;LPV") "0"
+    -- "after 6 and 7", each on the whole code
+    ∷ row (checking "F;1;2;ZZ") "6"
+    ∷ row (checking "F;1;2;3;[];+") "7"
+    ∷ row (checking "F;1;2;+;+;1;2") "7"
+    -- the first bad code decides, with its number
+    ∷ row (first-bad "F;1;2]ZZ") "18 1"
+    ∷ row (first-bad "F;1;2]F;+") "18 1"
+    ∷ row (first-bad "F;+]F;1;2") "7 1"
+    ∷ row (first-bad "MX]F;1]F;1;2") "18 3"
+    ∷ row (first-bad "F;1]F;2") "0 0"
+    -- it stands where 6 and 7 stand: nothing runs, and the ceiling is 0
+    ∷ row (converting "K1^10]20^3" "F;1;2R" 1 0 0 program-budget) "18 0 "
+    ∷ row (converting "K1^10]20^3" "F;1;2R" 1 0 0 0) "18 0 "
+    ∷ row (at-most "K1^10]20^3" "F;1;2R" 1 0 0) "0"
+    ∷ []
+
+left-over-examples : all-told left-over ≡ all-said left-over
+unfolding told left-over marked bytes
+left-over-examples = refl

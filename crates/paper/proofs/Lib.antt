@@ -21,6 +21,7 @@ pub mod Runs
 pub mod Settled
 pub mod Splitting
 pub mod Stack
+pub mod Stricter
 pub mod Symmetry
 pub mod Truths
 pub mod Weights

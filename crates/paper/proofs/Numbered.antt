@@ -1,19 +1,20 @@
--- Document 01, "Numbers that refusals carry": every refusal that converting gives carries a number of that table, and after an accepted
--- check it is never 7. A law for each way of going on, then one for each definition that may refuse and matches on something; the rest is
+-- Document 01, "Numbers that refusals carry", with document 02's: every refusal that converting gives carries a number of that table, and after an
+-- accepted check it is never 7. A law for each way of going on, then one for each definition that may refuse and matches on something; the rest is
 -- unfolded. Assumes nothing.
 use Prim.Native.Nat.{ℕ, suc, _+_, _-_, _≤_, _<_}
 use mathlib.Core.Path.{_≡_, refl, ap, subst}
-use mathlib.Core.Bool.{Bool, true, false, not, _&&_}
-use mathlib.Core.Logic.{_≢_}
+use mathlib.Core.Bool.{Bool, true, false, not, _&&_, _||_}
+use mathlib.Core.Logic.{_≢_, _⊎_, inl, inr, ⊎-elim}
 use mathlib.Core.List.{List, [], _∷_}
 use mathlib.Core.Option.{Option, none, some}
 use lib.Dec.{T, leb, eqb}
 use lib.ListN.{length}
 use native.Mathlib.Omega.{arith}
-use borrow.Author.Tests.{le-leb, ne-eqb, eqb-false, not-true}
+use borrow.Author.Tests.{le-leb, ne-eqb, eqb-true, eqb-false, not-true}
 use Rattle.paper.specs.Bytes.{Bytes, if_then_else_, within}
 use Rattle.paper.specs.Sizes.{code-most, entry-most, stack-most, scratch-least}
-use Rattle.paper.specs.Refusals.{Res, given, refused, _>>=_, _>>_, refuse_unless_, refuse_when_, refusal-of, stack-fault, short-scratch, short-output, mark-in-element, last-refusal}
+use Rattle.paper.specs.Refusals.{Res, given, refused, _>>=_, _>>_, refuse_unless_, refuse_when_, refusal-of}
+use Rattle.paper.specs.Refusals.{stack-fault, short-scratch, short-output, mark-in-element, left-over-entries, last-refusal}
 use Rattle.paper.specs.Records.{lawful-id, lawful-record, lawful-address}
 use Rattle.paper.specs.Numbers.{Number, ranged, number, compare-forms, compared, Binary, binary-gives, substring-gives}
 use Rattle.paper.specs.Codes.{Plain, Conversion, Elm, Code}
@@ -34,7 +35,7 @@ table n = within 1 last-refusal n && not (eqb n mark-in-element)
 
 -- the numbers that are tried before the run, but for the scratch's
 abbrev early : ℕ → Bool
-early n = within 1 stack-fault n
+early n = within 1 stack-fault n || eqb n left-over-entries
 
 -- the numbers that a run's own steps refuse with
 abbrev own : ℕ → Bool
@@ -134,7 +135,7 @@ conversion-numbered (Conversion.date n s) [] = answered
 conversion-numbered (Conversion.date n s) (b ∷ bs) = search (tests, on-numbered) depth 8
 conversion-numbered (Conversion.patterns ps) e = answered
 
--- checking: 5, 6, 7
+-- checking: 5, 6, 7, 18
 all-stacked-numbered : (es : List Elm) (held : ℕ) → Numbered early (all-stacked es held)
 unfolding all-stacked stacked
 all-stacked-numbered [] held = answered
@@ -194,8 +195,22 @@ numbered-more : {A : Type 0} {p q : ℕ → Bool} {r : Res A} → ((n : ℕ) →
 numbered-more f answered = answered
 numbered-more f (numbered h) = numbered (f _ h)
 
+-- the early ones are 1 to 7 and 18
+told-early : (n : ℕ) → T (early n) → (within 1 stack-fault n ≡ true) ⊎ (n ≡ left-over-entries)
+told-early n h = go (within 1 stack-fault n) (eqb n left-over-entries) refl h
+  where
+    go : (t u : Bool) → eqb n left-over-entries ≡ u → T (t || u) → (t ≡ true) ⊎ (n ≡ left-over-entries)
+    go true u e k = inl refl
+    go false true e k = inr (eqb-true n left-over-entries e)
+    go false false e k = absurd k
+
+early-in-table : (n : ℕ) → T (early n) → T (table n)
+early-in-table n h =
+    ⊎-elim (λ (w : within 1 stack-fault n ≡ true). in-table 1 stack-fault n (omega arith) (omega arith) (rw w tt))
+    (λ (e : n ≡ left-over-entries). rw e tt) (told-early n h)
+
 check-in-table : (string : Bytes) → Numbered table (checked-codes (check string))
-check-in-table string = numbered-more (λ n. in-table 1 stack-fault n (omega arith) (omega arith)) (check-numbered string)
+check-in-table string = numbered-more early-in-table (check-numbered string)
 
 -- before the run: 1, 2, 3, 4, checking, 8
 ready-numbered : (item string : Bytes) (a v s scratch : ℕ) → Numbered table (ready item string a v s scratch)
@@ -303,12 +318,15 @@ ready-safe item string a v s scratch =
     holds-next (lawful-place item a v s)
     (λ u e. holds-then (codes-safe string (check string) refl) (λ cs safes. holds-next (refuse short-scratch unless leb scratch-least scratch) (λ w f. holds safes)))
 
--- before the run, but for the scratch, whatever follows gives: 1 to 7
+-- before the run, but for the scratch, whatever follows gives: 1 to 7, or 18
 pub early-refusals : {B : Type 0} (item string : Bytes) (a v s : ℕ) (k : List Code → B) (n : ℕ)
-    → (lawful-place item a v s >> (checked-codes (check string) >>= λ cs. given (k cs))) ≡ refused n → (1 ≤ n) × (n ≤ stack-fault)
+    → (lawful-place item a v s >> (checked-codes (check string) >>= λ cs. given (k cs))) ≡ refused n
+    → (1 ≤ n) × ((n ≤ stack-fault) ⊎ (n ≡ left-over-entries))
 unfolding lawful-place lawful-record lawful-id lawful-address
 early-refusals item string a v s k n e =
-    within-true 1 stack-fault n (is-true _ (number-told {p = early} (search (tests, check-numbered) depth 10) n e))
+    ⊎-elim (λ (w : within 1 stack-fault n ≡ true). let r = within-true 1 stack-fault n w in (r .0, inl (r .1)))
+    (λ (l : n ≡ left-over-entries). (omega arith, inr l))
+    (told-early n (number-told {p = early} (search (tests, check-numbered) depth 10) n e))
 
 -- Every refusal of converting carries a number of the paper's table; so none is taken for an answer, whose number is 0.
 pub converting-numbered : (item string : Bytes) (a v s budget room scratch : ℕ) (n : ℕ)

@@ -45,11 +45,6 @@ pub data Reads {A R : Type 0} (P : A → Type 0) : Option (A × R) → Type 0 wh
   reads : {r : A × R} → P (r .0) → Reads P (some r)
   reads-not : Reads P none
 
-pub reads-then : {A B : Type 0} {P : A → Type 0} {Q : B → Type 0} {o : Option (A × Bytes)} {k : A → Reader B} → Reads P o
-    → ((a : A) (bs : Bytes) → P a → Reads Q (k a bs)) → Reads Q (follow o k)
-reads-then (reads {r = r} p) f = f (r .0) (r .1) p
-reads-then reads-not f = reads-not
-
 pub reads-after : {A B : Type 0} {Q : B → Type 0} (o : Option (A × Bytes)) {k : A → Reader B}
     → ((a : A) (bs : Bytes) → Reads Q (k a bs)) → Reads Q (follow o k)
 reads-after none f = reads-not

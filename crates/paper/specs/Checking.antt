@@ -1,9 +1,9 @@
--- Document 01, "The code grammar" and "Steps" (A and B), and document 02, L1 (P and T): checking a code string.
+-- Document 01, "The code grammar" and "Steps" (A and B), and document 02, L1 (P and T) and L5 (18): checking a code string.
 use Prim.Native.Nat.{ℕ, suc, _+_, _-_, _≤_}
 use mathlib.Core.List.{List, [], _∷_}
 use mathlib.Core.Option.{Option, none, some}
 use lib.ListN.{length}
-use lib.Dec.{leb}
+use lib.Dec.{leb, eqb}
 use Rattle.paper.specs.Bytes.{Bytes, if_then_else_}
 use Rattle.paper.specs.Sizes.{value-mark, code-most, stack-most}
 use Rattle.paper.specs.Records.{split}
@@ -20,6 +20,7 @@ use Rattle.paper.specs.Refusals.{
   over-long-code,
   not-in-grammar,
   stack-fault,
+  left-over-entries,
 }
 
 abbrev pub shaped : ℕ → ℕ → Kind → Shape
@@ -59,16 +60,18 @@ unfoldable pub all-stacked : List Elm → ℕ → Res ℕ
 all-stacked [] held = given held
 all-stacked (e ∷ es) held = stacked e held >>= all-stacked es
 
--- what is unlawful in a code that is in the grammar
+-- what is unlawful in a code that is in the grammar: 7, and then "an F code must end with exactly one entry"
 unfoldable pub lawful : Code → Res (Unit {0})
-lawful (Code.function es) = all-stacked es 0 >> given tt
+lawful (Code.function es) = do
+  held ← all-stacked es 0
+  refuse left-over-entries unless eqb held 1
 lawful (Code.single c) = given tt
 
 abbrev pub in-grammar : Option Code → Res Code
 in-grammar none = refused not-in-grammar
 in-grammar (some c) = given c
 
--- the fault of one code: "6 or 7", in that order
+-- the fault of one code: "6 or 7", in that order, and 18 "after 6 and 7"
 unfoldable pub judged : Bytes → Res Code
 judged bs = do
   c ← in-grammar (read bs)
@@ -88,7 +91,7 @@ abbrev pub in-turn : ℕ → Res Code → Checked → Checked
 in-turn k (given c) rest = in-front c rest
 in-turn k (refused n) rest = faulty n k
 
--- "then the first bad code, 6 or 7, with that code's number from 1"
+-- "then the first bad code, 6 or 7", or 18, "with that code's number from 1"
 unfoldable pub judged-all : ℕ → List Bytes → Checked
 judged-all k [] = accepted []
 judged-all k (c ∷ cs) = in-turn k (judged c) (judged-all (suc k) cs)

@@ -92,7 +92,7 @@ lawful-place item a v s = do
   lawful-record item
   lawful-address a v s
 
--- ".. 5, 6 or 7, 8 .."
+-- ".. 5, 6 or 7, 8 ..", and 18 where 6 and 7 stand
 unfoldable pub lawful-code : Bytes → ℕ → Res (List Code)
 lawful-code string scratch = do
   cs ← checked-codes (check string)

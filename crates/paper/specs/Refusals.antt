@@ -1,4 +1,4 @@
--- Document 01, "Numbers that refusals carry": the numbers by name, an answer that may be a refusal, and tests in their order.
+-- Document 01, "Numbers that refusals carry", and document 02: the numbers by name, an answer that may be a refusal, and tests in their order.
 use Prim.Native.Nat.{ℕ}
 use mathlib.Core.Bool.{Bool, true, false}
 use mathlib.Core.List.{[]}
@@ -57,9 +57,13 @@ short-output = 16
 abbrev pub mark-in-element : ℕ
 mark-in-element = 17
 
+-- document 02, L5: "new 18, left-over entries"
+abbrev pub left-over-entries : ℕ
+left-over-entries = 18
+
 -- the last number of the table
 abbrev pub last-refusal : ℕ
-last-refusal = mark-in-element
+last-refusal = left-over-entries
 
 -- an answer, or one refusal by its number
 pub data Res (A : Type 0) : Type 0 where

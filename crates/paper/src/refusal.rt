@@ -1,4 +1,4 @@
-// Document 01, "Numbers that refusals carry": the names of specs/Refusals.antt, for the code.
+// Document 01, "Numbers that refusals carry", and document 02: the names of specs/Refusals.antt, for the code.
 // Each contract that answers one of these numbers ties it to its definition.
 pub const OVER_LONG_RECORD: u64 = 1;
 
@@ -33,3 +33,5 @@ pub const OVER_BUDGET: u64 = 15;
 pub const SHORT_OUTPUT: u64 = 16;
 
 pub const MARK_IN_ELEMENT: u64 = 17;
+
+pub const LEFT_OVER_ENTRIES: u64 = 18;

@@ -2,7 +2,7 @@
 -- outcome that another call's contract allows on the same bytes and numbers. Assumes nothing.
 use Prim.Native.Nat.{ℕ, _≤_, _<_}
 use mathlib.Core.Path.{_≡_, refl, sym, ap, _∙_}
-use mathlib.Core.Logic.{_≢_}
+use mathlib.Core.Logic.{_≢_, _⊎_}
 use native.Mathlib.Omega.{arith}
 use native.Mathlib.Nat.{sub-zero}
 use lib.ListN.{length, take, drop, replicate}
@@ -10,14 +10,15 @@ use lib.Dec.{T}
 use contract.Lifetimes.{Lfts}
 use Rattle.paper.specs.Bytes.{Bytes, buffer}
 use Rattle.paper.specs.Sizes.{entry-most}
-use Rattle.paper.specs.Refusals.{Res, given, refused, refusal-of, answer-of, over-budget, stack-fault, mark-in-element, last-refusal}
+use Rattle.paper.specs.Refusals.{Res, given, refused, refusal-of, answer-of, over-budget, stack-fault, mark-in-element, left-over-entries, last-refusal}
 use Rattle.paper.specs.Records.{path, apart, replace}
 use Rattle.paper.specs.Checking.{Counts, check, report}
 use Rattle.paper.specs.Converting.{Outcome, elements, ready, convert, convert-freely, output-after, scratch-after, counted-ceiling}
 use Rattle.paper.proofs.Predicates.{All}
 use Rattle.paper.proofs.Budget.{Completed, defined-costs, converting-within-budget, converting-over-budget}
 use Rattle.paper.proofs.Ceiling.{steps-within-ceiling, ceiling-reported}
-use Rattle.paper.proofs.Stack.{SafeCode, checked-codes-are-safe}
+use Rattle.paper.proofs.Stack.{SafeCode, checked-codes-are-safe, EndsWithOne, checked-codes-end-with-one}
+use Rattle.paper.proofs.Stricter.{convert-before, gives-as-before}
 use Rattle.paper.proofs.Numbered.{early-refusals, converting-numbered, converting-told, told-refused, no-stack-fault as converting-has-no-stack-fault}
 use Rattle.paper.proofs.Replacing as replacing
 use Rattle.elements.specs.Running.{codes-in, Accepts}
@@ -72,22 +73,28 @@ module _ (κs : Lfts 5) (args : _) (r : _) (exits : _) (post : convert-call.Post
   abbrev told-length : ℕ
   told-length = exits .1 .1 .1 .1 .1 .1 .1 .1 .1 .0 .now
 
+  -- the call tells an outcome: number, steps, length and both buffers are its own
+  abbrev Tells : Outcome → Type 0
+  Tells o =
+      (r ≡ refusal-of (o .answer)) × (steps ≡ o .steps) × (told-length ≡ answer-length (o .answer))
+      × (output ≡ output-after room o) × (scratch-left ≡ scratch-after scratch)
+
+  tells : {o : Outcome} → convert item code a v s budget room scratch ≡ o → Tells o
+  tells same = (
+    post .0 ∙ ap (λ (o : Outcome). refusal-of (o .answer)) same,
+    post .1 .0 ∙ ap (λ (o : Outcome). o .steps) same,
+    post .1 .1 .0 ∙ ap (λ (o : Outcome). answer-length (o .answer)) same,
+    post .1 .1 .1 .0 ∙ ap (output-after room) same,
+    post .1 .1 .1 .1,
+  )
+
   -- converting with no budget
   abbrev freely : Outcome
   freely = convert-freely item code a v s room scratch
 
   -- a budget at or above the defined count: number, steps, length and both buffers are those with none
-  pub budget-changes-nothing : freely .steps ≤ budget
-      → (r ≡ refusal-of (freely .answer)) × (steps ≡ freely .steps) × (told-length ≡ answer-length (freely .answer))
-      × (output ≡ output-after room freely) × (scratch-left ≡ scratch-after scratch)
-  budget-changes-nothing h =
-      let same = converting-within-budget item code a v s budget room scratch h in (
-        post .0 ∙ ap (λ (o : Outcome). refusal-of (o .answer)) same,
-        post .1 .0 ∙ ap (λ (o : Outcome). o .steps) same,
-        post .1 .1 .0 ∙ ap (λ (o : Outcome). answer-length (o .answer)) same,
-        post .1 .1 .1 .0 ∙ ap (output-after room) same,
-        post .1 .1 .1 .1,
-      )
+  pub budget-changes-nothing : freely .steps ≤ budget → Tells freely
+  budget-changes-nothing h = tells (converting-within-budget item code a v s budget room scratch h)
 
   -- below it: 15, and the count is the cost of the steps completed, as many first ones as the budget holds and not one more; nothing is answered
   pub budget-refuses : budget < freely .steps
@@ -152,6 +159,14 @@ module _ (κs : Lfts 5) (args : _) (r : _) (exits : _) (post : convert-call.Post
         converting-has-no-stack-fault item code a v s budget room scratch (codes-in code) (accepted e)
         (told-refused (convert item code a v s budget room scratch .answer) 6 (sym (post .0) ∙ f))
 
+    -- each F code of them, where its run is not refused, ends with exactly one entry (document 02, L5)
+    pub accepted-ends-with-one : r′ ≡ 0 → All (EndsWithOne entry-most) (codes-in code)
+    accepted-ends-with-one e = checked-codes-end-with-one entry-most code (codes-in code) (accepted e)
+
+    -- and the call tells what it told by the check before L5, which let entries be left over
+    pub accepted-gives-as-before : r′ ≡ 0 → Tells (convert-before item code a v s budget room scratch)
+    accepted-gives-as-before e = tells (gives-as-before code (codes-in code) (accepted e) item a v s budget room scratch)
+
   -- beside what `sundewfrill_ceiling` gave on the same record, code and address
   module _ (κs′ : Lfts 3) (args′ : _) (r′ : _) (exits′ : _) (capped : ceiling-call.Post κs′ args′ r′ exits′) (same-item : args′ .0 .now ≡ item)
       (same-code : args′ .1 .0 .now ≡ code) (same-a : args′ .1 .1 .0 ≡ a) (same-v : args′ .1 .1 .1 .0 ≡ v) (same-s : args′ .1 .1 .1 .1 .0 ≡ s) where
@@ -170,7 +185,7 @@ module _ (κs : Lfts 3) (args : _) (r : _) (exits : _) (post : ceiling-call.Post
   abbrev asked : Res ℕ
   asked = ceiling-of (args .0 .now) (args .1 .0 .now) (args .1 .1 .0) (args .1 .1 .1 .0) (args .1 .1 .1 .1 .0)
 
-  pub ceiling-refused : (n : ℕ) → asked ≡ refused n → (r ≡ n) × (1 ≤ n) × (n ≤ stack-fault)
+  pub ceiling-refused : (n : ℕ) → asked ≡ refused n → (r ≡ n) × (1 ≤ n) × ((n ≤ stack-fault) ⊎ (n ≡ left-over-entries))
   unfolding ceiling-of
   ceiling-refused n e =
       let told = early-refusals (args .0 .now) (args .1 .0 .now) (args .1 .1 .0) (args .1 .1 .1 .0) (args .1 .1 .1 .1 .0) _ n e in

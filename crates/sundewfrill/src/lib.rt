@@ -104,7 +104,7 @@ fn of_given(given: Given) -> Replacing
     }
 }
 
-// "the first bad code, 6 or 7, with that code's number from 1; accepted, it gives A and B", and P and T with them
+// "the first bad code, 6 or 7", or 18, "with that code's number from 1; accepted, it gives A and B", and P and T with them
 fn of_verdict(verdict: Verdict) -> Checking
     ensures { λ r. ⌜ r ≡ checking-in verdict ⌝ }
 {
@@ -225,7 +225,7 @@ pub extern "C" fn sundewfrill_check(
     told.number
 }
 
-// "Ceiling: with A attribute loads and B other steps in the string, record length R and m elements": 1 to 7 as converting tries them.
+// "Ceiling: with A attribute loads and B other steps in the string, record length R and m elements": 1 to 7 and 18 as converting tries them.
 #[no_mangle]
 pub extern "C" fn sundewfrill_ceiling(
     item: &[u8],
@@ -243,7 +243,7 @@ pub extern "C" fn sundewfrill_ceiling(
     told.number
 }
 
-// "Converting: 1, 2, 3, 4, 5, 6 or 7, 8, then the run, then 16."
+// "Converting: 1, 2, 3, 4, 5, 6 or 7, 8, then the run, then 16.", and 18 where 6 and 7 stand
 #[no_mangle]
 pub extern "C" fn sundewfrill_convert<'a>(
     item: &'a [u8],

@@ -25,7 +25,7 @@ fn say_counts(counts: Counts) {
     say_titled(titles::TESTS, counts.tests);
 }
 
-// "the first bad code, 6 or 7, with that code's number from 1; accepted, it gives A and B", and P and T with them
+// "the first bad code, 6 or 7", or 18, "with that code's number from 1; accepted, it gives A and B", and P and T with them
 fn check(code: &[u8]) {
     match judging::check(code) {
         Verdict::Accepted(counts) => say_counts(counts),
