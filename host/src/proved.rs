@@ -105,11 +105,12 @@ pub fn replace<'o>(
 /// assert_eq!((counts.loads, counts.others), (1, 1));
 /// assert_eq!((counts.patterns, counts.tests), (1, 2));
 /// assert_eq!(check(b"P(1N;2A)").unwrap_err().refusal, Refusal::NotInGrammar);
+/// assert_eq!(check(b"F;1;2;3;+").unwrap_err().refusal, Refusal::EntriesLeftOver);
 /// ```
 ///
 /// # Errors
 ///
-/// Refusal 5, or the first bad code with 6 or 7.
+/// Refusal 5, or the first bad code with 6, 7 or 18, tried on it in this order.
 pub fn check(code: &[u8]) -> Result<StepCounts, BadCode> {
     let outcome = ffi::check(code);
     match accepted(outcome.refusal) {
@@ -135,8 +136,8 @@ pub fn check(code: &[u8]) -> Result<StepCounts, BadCode> {
 ///
 /// # Errors
 ///
-/// Refusals 1 to 8, then those of the run, then 16; with the steps that were
-/// completed.
+/// Refusals 1 to 5, then 6, 7 or 18 of the first bad code, 8, then those of the
+/// run, then 16; with the steps that were completed.
 pub fn convert<'o>(
     record: &[u8],
     code: &[u8],
@@ -173,7 +174,7 @@ pub fn convert<'o>(
 ///
 /// # Errors
 ///
-/// Refusals 1 to 7, as [`convert`] gives them before its run.
+/// Refusals 1 to 7 and 18, as [`convert`] gives them before its run.
 pub fn ceiling(record: &[u8], code: &[u8], at: Address) -> Result<u64, Refusal> {
     let outcome = ffi::ceiling(record, code, at);
     accepted(outcome.refusal)?;

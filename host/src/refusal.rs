@@ -3,7 +3,7 @@
 use std::error::Error;
 use std::fmt;
 
-/// Why a call refused. Each case has the number that document 01 gives it.
+/// Why a call refused. Each case has the number that the documents give it.
 ///
 /// There may be more of them one day: a `match` outside this package needs an
 /// arm for the others.
@@ -45,6 +45,8 @@ pub enum Refusal {
     OutputTooShort = 16,
     /// 17: the new element for replacing holds a byte 251 to 255.
     MarkInNewElement = 17,
+    /// 18: an F code ends with more than one entry.
+    EntriesLeftOver = 18,
 }
 
 impl Refusal {
@@ -67,12 +69,13 @@ impl Refusal {
         Refusal::OverBudget,
         Refusal::OutputTooShort,
         Refusal::MarkInNewElement,
+        Refusal::EntriesLeftOver,
     ];
 
     /// The last of them: no call refuses with a number over its own.
     pub const LAST: Refusal = Self::ALL[Self::ALL.len() - 1];
 
-    /// The number that document 01 gives this refusal, 1 to that of [`Refusal::LAST`].
+    /// The number that the documents give this refusal, 1 to that of [`Refusal::LAST`].
     pub const fn number(self) -> u64 {
         self as u64
     }
@@ -140,8 +143,8 @@ mod tests {
             assert_eq!(refusal.number(), place as u64 + 1);
             assert_eq!(Refusal::from_number(refusal.number()), Some(refusal));
         }
-        assert_eq!(Refusal::LAST, Refusal::MarkInNewElement);
-        assert_eq!(Refusal::LAST.number(), 17);
+        assert_eq!(Refusal::LAST, Refusal::EntriesLeftOver);
+        assert_eq!(Refusal::LAST.number(), 18);
         assert_eq!(Refusal::LAST.number(), Refusal::ALL.len() as u64);
         assert_eq!(Refusal::from_number(0), None);
         assert_eq!(Refusal::from_number(Refusal::LAST.number() + 1), None);

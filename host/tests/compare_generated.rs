@@ -113,6 +113,7 @@ fn check() {
         let (paper, proved) = (call.run(&PAPER), call.run(&PROVED));
         same(&paper, &proved, "checking", &call);
         laws::check(&call, &proved);
+        laws::codes::judged(&call, &proved, &PROVED);
         coverage.check(&call, &proved);
     });
     coverage.require_of_check();
@@ -135,6 +136,7 @@ fn convert_share(name: &'static str, call: u64, percent: u64) {
         let mut call = generator::convert(rng, &mut both.paper);
         let outcome = both.convert(&call);
         laws::convert(&call, &outcome, &both.proved);
+        laws::codes::before_run(&call, &outcome, &PROVED);
         laws::within_ceiling(&call, &outcome, &same_ceiling(&call.ceiling()));
         coverage.convert(&call, &outcome);
         let answer = both.proved.output.after().to_vec();
@@ -143,6 +145,7 @@ fn convert_share(name: &'static str, call: u64, percent: u64) {
             let again = both.convert(&call);
             laws::budget(&call, enough, (&outcome, &answer), &again, &both.proved);
         }
+        laws::codes::one_more(&call, &PROVED, &mut both.proved);
         laws::pattern_code(&call, &PROVED, &mut both.proved);
         laws::mask_code(&call, &PROVED, &mut both.proved);
         laws::blanks(&call, &PROVED, &mut both.proved);

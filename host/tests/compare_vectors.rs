@@ -73,3 +73,9 @@ fn blanks() {
 fn algebra() {
     vectors::run("L4.tsv", &PROVED);
 }
+
+/// All calls, with entries that are left over refused.
+#[test]
+fn left_over() {
+    vectors::run("L5.tsv", &PROVED);
+}

@@ -105,6 +105,7 @@ fn refused_conversions() {
         (14, "1,0,0", b"12345".to_vec(), "MR2(#4)"),
         (15, "1,0,0", tens.clone(), &joins),
         (16, "1,0,0", tens, "MX"),
+        (18, "1,0,0", element(1), "F;1;1"),
     ] {
         let record = [b"K1^", attribute.as_slice()].concat();
         let lines = [code.as_bytes(), address.as_bytes(), &marked(&record)].join(&b'\n');
@@ -114,7 +115,11 @@ fn refused_conversions() {
         let known = by_words.refused(&output);
         let place = "code 1 of 1, at byte 1 of the code string";
         let is_placed = known.iter().any(|line| line.starts_with(place));
-        assert_eq!(is_placed, matches!(number, 5..=7 | 10..=14), "{known:?}");
+        assert_eq!(
+            is_placed,
+            matches!(number, 5..=7 | 10..=14 | 18),
+            "{known:?}"
+        );
         let by_lines = words(&[b"-"]).reading(&lines);
         assert_eq!(by_lines.refused(&output), known);
     }
@@ -125,6 +130,7 @@ fn refused_calls_by_words() {
     let table = r#"
 check mcu => refusal = 6, code = 1\n
 check MCU 'F;1;+' => refusal = 7, code = 2\n
+check MCU 'F;1;P' => refusal = 18, code = 2\n
 find 1 'K1^10' => refusal = 4\n
 find 0,0,0 '1]2^' => refusal = 3\n
 replace 1,0,0 'K1^A' 'X]Y' => refusal = 17\n
@@ -132,6 +138,7 @@ replace 1000,0,0 'K1^A' X => refusal = 4\n
 date D '30 FEB 1967' => refusal = 12\n
 date MCU '1 JAN 1968' => refusal = 6\n
 ceiling 1,0,0 'K1^1' 'F;1;+' => refusal = 7\n
+ceiling 1,0,0 'K1^1' 'F;1;P' => refusal = 18\n
 ceiling 1,0 'K1^1' MCU => refusal = 4\n
 algebra A1+ => refusal = 6\n
 algebra "A1/'0'" 1,0,0 'K1^2' => refusal = 0, F code = F;1;'0';/\nrefusal = 11, steps = 8\n
@@ -149,6 +156,7 @@ fn bad_codes() {
     let table = r#"
 1,0,0 'K1^a' MCU MCT mcl MCA => 6 0\s\n => code 3 of 4, at byte 9 of the code string: `mcl`
 1,0,0 'K1^a' MCU T1 'F;1;+' MCV => 7 0\s\n => code 3 of 4, at byte 8 of the code string: `F;1;+`
+1,0,0 'K1^a' MCU T1 'F;1;P' MCV => 18 0\s\n => code 3 of 4, at byte 8 of the code string: `F;1;P`
 check MCU '' MCT => refusal = 6, code = 2\n => code 2 of 3, at byte 5 of the code string: ``
 ceiling 1,0,0 'K1^1' L 'F;1;+' => refusal = 7\n => code 2 of 2, at byte 3 of the code string: `F;1;+`"#;
     for [line, output, code] in rows(table) {
@@ -183,7 +191,7 @@ gx1 => did you mean 'Gx1'?
 F,1,', ',: => did you mean "F;1;', ';:"?
 F; 1; 2; * => did you mean 'F;1;2;*'?
 MCU\s => did you mean 'MCU'?
-f; 1;2R;' x';: => did you mean "F;1;2R;' x';:"?
+f; 1;2R;:;' x';: => did you mean "F;1;2R;:;' x';:"?
 F;1;‘7’;+ => did you mean "F;1;'7';+"?
 F;1;'7;+ => did you mean "F;1;'7';+"?
 F;1;7';+ => did you mean "F;1;'7';+"?
@@ -217,6 +225,59 @@ X => no code is written so; the codes are F G T L MCA MC/A MCN MC/N MCU MCL MCT 
         known[1],
         "it goes wrong at byte 9 of the code, at the elm `*`"
     );
+}
+
+/// A mended code that would leave entries over is not offered.
+#[test]
+fn slips_beside_left_over_entries() {
+    let table = r#"
+F;1;2; => an elm is missing at byte 7 of the code
+F;1;2;+; => did you mean 'F;1;2;+'?
+f;1;2 => F is written `F;elm;elm...`, at least one elm, a `;` before each.
+f;1 => did you mean 'F;1'?"#;
+    for [code, said] in rows(table) {
+        let known = words(&[b"check", code.as_bytes()]).refused("refusal = 6, code = 1\n");
+        assert_eq!(known[1..], [said]);
+    }
+}
+
+/// How many entries a code leaves over, and nothing of an elm: no one elm is at fault.
+#[test]
+fn left_over_entries() {
+    let table = r#"
+F;1;2;3;+ => 2
+F;1;P => 2
+F;1;2;_ => 2
+F;1;2;3;(MCU) => 3
+F;1;2;(P(1N);(2A)) => 2
+F;1;P;P;P;P;P;P;P;P;P;P;P;P;P;P => 15
+F;1;1;1;1;1;1;1;1;1;1;1;1;1;1;1;1 => 16"#;
+    for [code, entries] in rows(table) {
+        let place = format!("code 2 of 3, at byte 3 of the code string: `{code}`");
+        let known = [place, format!("{entries} entries are left at the end")];
+        let code = code.as_bytes();
+        let call = words(&[b"1,0,0", b"K1^1^2^3", b"L", code, b"ZZ"]);
+        assert_eq!(call.refused("18 0 \n"), known);
+        let call = words(&[b"check", b"L", code, b"ZZ"]);
+        assert_eq!(call.refused("refusal = 18, code = 2\n"), known);
+        let call = words(&[b"ceiling", b"1,0,0", b"K1^1", b"L", code, b"ZZ"]);
+        assert_eq!(call.refused("refusal = 18\n"), known);
+        let lines = [b"L\xfd", code, b"\xfdZZ\n1,0,0\nK1\xfe1\n"].concat();
+        let call = words(&[b"-"]).reading(&lines);
+        assert_eq!(call.refused("18 0 \n"), known);
+    }
+    // the `:` that would tell the number have room in 512 bytes, or not
+    for (literal, is_told) in [(504, true), (505, false)] {
+        let code = format!("F;1;'{}'", "x".repeat(literal));
+        let known = words(&[b"check", code.as_bytes()]).refused("refusal = 18, code = 1\n");
+        let told = known.get(1).map(String::as_str);
+        let entries = is_told.then_some("2 entries are left at the end");
+        assert_eq!(told, entries, "{known:?}");
+    }
+    // the code's own length counts, not that of the string
+    let long = format!("F;'{}'", "x".repeat(500));
+    let known = words(&[b"check", long.as_bytes(), b"F;1;P"]).refused("refusal = 18, code = 2\n");
+    assert_eq!(known[1], "2 entries are left at the end");
 }
 
 /// A code that cannot be mended is told by its form, as the reference has it.
@@ -412,6 +473,13 @@ fn warnings() {
         ),
     ] {
         console(line).writes(output, &[format!("warning: {warning}")], 0);
+    }
+    // what is refused before it runs loads nothing
+    for line in ["1,0,0 'K1^10' 'F;1;'7';+;+'", "1,0,0 'K1^10' 'F;1;'7''"] {
+        let written = console(line).run();
+        let warned = |line: &String| line.starts_with("warning: ");
+        assert!(!written.lines.iter().any(warned), "{written}");
+        assert_eq!(written.status, Some(1), "{written}");
     }
     let line = "./console algebra A1+'7' 1,0,0 'K1^2' 2>&1 | grep -c 'has no attribute 7'";
     typed(line).writes("1\n", NOTHING, 0);

@@ -18,9 +18,9 @@ const README: &str = "README.md";
 const CODES: &str = "docs/CODES.md";
 
 /// How many rows all tables of conversions have.
-const CONVERSIONS: usize = 246;
+const CONVERSIONS: usize = 254;
 /// How many commands all transcripts have.
-const TRANSCRIPTS: usize = 54;
+const TRANSCRIPTS: usize = 56;
 
 /// The header of README's table of refusals.
 const REFUSALS: &str = "| No. | given when |";
@@ -271,7 +271,7 @@ mod made_up {
         assert_eq!(wrong(&table.replace("| 3 |", "| 4 |")), [5]);
         assert_eq!(wrong(&table.replacen("bytes. |", "bytes |", 1)), [3]);
         assert_eq!(wrong(&[table.as_str(), &table].concat()), [0]);
-        assert_eq!(wrong(table.trim_end().trim_end_matches('|')), [19]);
+        assert_eq!(wrong(table.trim_end().trim_end_matches('|')), [20]);
         assert_eq!(wrong(&table.replace("given when", "when")), [0]);
         assert_eq!(wrong(""), [0]);
     }

@@ -60,6 +60,7 @@ fn check() {
         let call = generator::check(rng);
         let outcome = call.run(&PAPER);
         laws::check(&call, &outcome);
+        laws::codes::judged(&call, &outcome, &PAPER);
         coverage.check(&call, &outcome);
     });
     coverage.require_of_check();
@@ -72,6 +73,7 @@ fn convert() {
         let mut call = generator::convert(rng, &mut buffers);
         let outcome = call.run(&PAPER, &mut buffers);
         laws::convert(&call, &outcome, &buffers);
+        laws::codes::before_run(&call, &outcome, &PAPER);
         laws::within_ceiling(&call, &outcome, &call.ceiling().run(&PAPER));
         coverage.convert(&call, &outcome);
         let answer = buffers.output.after().to_vec();
@@ -80,6 +82,7 @@ fn convert() {
             let again = call.run(&PAPER, &mut buffers);
             laws::budget(&call, enough, (&outcome, &answer), &again, &buffers);
         }
+        laws::codes::one_more(&call, &PAPER, &mut buffers);
         laws::pattern_code(&call, &PAPER, &mut buffers);
         laws::mask_code(&call, &PAPER, &mut buffers);
         laws::blanks(&call, &PAPER, &mut buffers);

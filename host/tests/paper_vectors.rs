@@ -65,3 +65,9 @@ fn blanks() {
 fn algebra() {
     vectors::run("L4.tsv", &PAPER);
 }
+
+/// All calls, with entries that are left over refused.
+#[test]
+fn left_over() {
+    vectors::run("L5.tsv", &PAPER);
+}

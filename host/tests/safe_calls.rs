@@ -62,6 +62,13 @@ fn checking() {
     assert_eq!(check(b"L\xfdF;1;+"), Err(bad));
     let said = both_texts(Refusal::StackMisused);
     assert_eq!(bad.to_string(), format!("code 2: refusal 7: {said}"));
+    let bad = check(b"L\xfdF;1\xfdF;1;2;3;+").unwrap_err();
+    assert_eq!(
+        (bad.refusal, bad.code_number),
+        (Refusal::EntriesLeftOver, 3)
+    );
+    let said = both_texts(Refusal::EntriesLeftOver);
+    assert_eq!(bad.to_string(), format!("code 3: refusal 18: {said}"));
     let long = check(&[b'L'; 513]).unwrap_err();
     assert_eq!((long.refusal, long.code_number), (Refusal::CodeTooLong, 0));
     let said = both_texts(Refusal::CodeTooLong);
@@ -99,6 +106,14 @@ fn converting() {
     );
     assert_eq!(output, [0; 8]);
     assert!(scratch.iter().all(|&byte| byte == 0));
+    output.fill(7);
+    let left_over = convert(RECORD, b"F;1;2R", at, 62, &mut output, &mut scratch);
+    let expected = Stopped {
+        refusal: Refusal::EntriesLeftOver,
+        steps: 0,
+    };
+    assert_eq!(left_over, Err(expected));
+    assert_eq!(output, [0; 8]);
 }
 
 #[test]
@@ -111,6 +126,7 @@ fn ceilings() {
     for (record, code, at, refusal) in [
         (RECORD, "L", Address::new(1, 0, 1), Refusal::BadAddress),
         (RECORD, "F;1;+", all_of_one, Refusal::StackMisused),
+        (RECORD, "F;1;P", all_of_one, Refusal::EntriesLeftOver),
         (RECORD, "?", all_of_one, Refusal::NotInGrammar),
         (b"\xff", "?", all_of_one, Refusal::ByteNotForRecords),
     ] {

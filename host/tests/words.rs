@@ -19,11 +19,11 @@ const CASES: u64 = 500;
 #[test]
 fn vectors() {
     for (call, expected) in [
-        ("find", 315),
-        ("replace", 166),
-        ("check", 588),
-        ("date", 318),
-        ("ceilingof", 55),
+        ("find", 319),
+        ("replace", 169),
+        ("check", 658),
+        ("date", 321),
+        ("ceilingof", 75),
     ] {
         let rows = vectors::words(call, "the program", |input| WORDS.compared(input));
         assert_eq!(rows, expected, "rows of {call}");
@@ -48,6 +48,7 @@ fn end_of_input() {
     for (input, expected) in [
         ("c\nF;1;2R;*", "refusal = 0, A = 2, B = 1, P = 0, T = 0\n"),
         ("c\nL]F;1;+", "refusal = 7, code = 2\n"),
+        ("c\nL]F;1;P", "refusal = 18, code = 2\n"),
         ("d\nD\n18 MAY 1995", "refusal = 0, day = 10000\n"),
         ("d\nD\n30 DEC 1967", "refusal = 0, day = -1\n"),
         ("d\nD\n30 FEB 1967", "refusal = 12\n"),
@@ -67,6 +68,7 @@ fn end_of_input() {
             "refusal = 0, ceiling = 12334\n",
         ),
         ("b\n1,0,0\nK1^10]20^3\nF;1;+", "refusal = 7\n"),
+        ("b\n1,0,0\nK1^10]20^3\nF;1;P", "refusal = 18\n"),
     ] {
         for end in ["", "\n", "\nmore\n"] {
             WORDS.must_write(&marked(&[input, end].concat()), expected);

@@ -15,7 +15,7 @@ use std::time::{Duration, Instant};
 use sundewfrill_host::outcome::{
     Address, Algebra, Ceiling, Check, Convert, Find, Implementation, Replace, TypedDate,
 };
-use sundewfrill_host::{ffi, paper, SCRATCH_LENGTH};
+use sundewfrill_host::{ffi, paper, Refusal, SCRATCH_LENGTH};
 
 /// How long one round of one side takes at least.
 const ROUND: Duration = Duration::from_millis(20);
@@ -51,6 +51,8 @@ enum Call {
     },
     Check {
         code: Vec<u8>,
+        /// With which number it is to be refused, 0 for none.
+        refusal: u64,
     },
     Convert {
         record: Vec<u8>,
@@ -136,6 +138,14 @@ impl Buffers {
 }
 
 impl Call {
+    /// With which number the call is to be refused, 0 for none.
+    fn refusal(&self) -> u64 {
+        match self {
+            Call::Check { refusal, .. } => *refusal,
+            _ => 0,
+        }
+    }
+
     fn run(&self, side: &Implementation, buffers: &mut Buffers) -> Outcome {
         match self {
             Call::Find { record, at } => Outcome::Find((side.find)(black_box(record), *at)),
@@ -147,7 +157,7 @@ impl Call {
                 *at,
                 &mut buffers.output,
             )),
-            Call::Check { code } => Outcome::Check((side.check)(black_box(code))),
+            Call::Check { code, .. } => Outcome::Check((side.check)(black_box(code))),
             Call::Convert {
                 record, code, at, ..
             } => Outcome::Convert((side.convert)(
@@ -234,8 +244,8 @@ fn measure(workload: &Workload, emulated: bool) -> Result<(), String> {
     Ok(())
 }
 
-/// The outcome of the call, if both sides accept it and give the same on dirty
-/// buffers.
+/// The outcome of the call, if both sides accept it, or refuse it as they are to, and
+/// give the same on dirty buffers.
 fn compared(call: &Call) -> Result<(Outcome, Buffers), String> {
     let mut proved_buffers = Buffers::for_call(call);
     let mut buffers = proved_buffers.clone();
@@ -244,8 +254,8 @@ fn compared(call: &Call) -> Result<(Outcome, Buffers), String> {
     if proved != independent || proved_buffers != buffers {
         return Err(format!("the sides differ: {proved:?} and {independent:?}"));
     }
-    if proved.refusal() != 0 {
-        return Err(format!("refused: {proved:?}"));
+    if proved.refusal() != call.refusal() {
+        return Err(format!("not refusal {}: {proved:?}", call.refusal()));
     }
     Ok((proved, buffers))
 }
@@ -416,22 +426,29 @@ fn pattern_codes() -> Vec<Workload> {
     ]
 }
 
-/// Strings of 512 bytes to check.
+/// Strings of 512 bytes to check, and sixteen entries that come to one or are left over.
 fn checks() -> Vec<Workload> {
     let function = [b"F;1".to_vec(), b";'1';2R;*;P;_;:;:".repeat(28)].concat();
     let codes = b"MR2,C$(#12)\xfdD2/\xfdG1*2\xfd".repeat(23);
+    let literals = [b"F".to_vec(), b";'1'".repeat(16)].concat();
+    let joined = [literals.clone(), b";:".repeat(15)].concat();
+    let check = |code: Vec<u8>, refusal: u64| Call::Check { code, refusal };
     vec![
         Workload {
             name: "checking an F code of 512 bytes",
-            call: Call::Check {
-                code: padded(function, b";'", b"';:"),
-            },
+            call: check(padded(function, b";'", b"';:"), 0),
         },
         Workload {
             name: "checking 70 codes in 512 bytes",
-            call: Call::Check {
-                code: padded(codes, b"F;'", b"'"),
-            },
+            call: check(padded(codes, b"F;'", b"'"), 0),
+        },
+        Workload {
+            name: "checking 16 literals that are joined to one",
+            call: check(joined, 0),
+        },
+        Workload {
+            name: "checking 16 literals that are left over, refused with 18",
+            call: check(literals, Refusal::EntriesLeftOver.number()),
         },
     ]
 }

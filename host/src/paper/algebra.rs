@@ -43,7 +43,7 @@ pub enum Operation {
 pub fn show(code: &[u8], output: &mut [u8]) -> Result<usize, Refusal> {
     let text = read(code)?.text();
     // "5 if the F text would pass 512 bytes, 7 as the F text earns it": in this order
-    // the check tries them.
+    // the check tries them. 18 is none of them: each operation leaves one entry.
     grammar::check(&text).map_err(|bad| bad.refusal)?;
     let room = output.get_mut(..text.len());
     room.ok_or(Refusal::OutputTooShort)?.copy_from_slice(&text);

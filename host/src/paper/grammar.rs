@@ -155,7 +155,7 @@ impl Counts {
 /// The first bad code of a string.
 #[derive(Clone, Copy, Debug, PartialEq, Eq)]
 pub struct Bad {
-    /// 5, 6 or 7.
+    /// 5, 6, 7 or 18.
     pub refusal: Refusal,
     /// Which code, from 1; 0 for a string that is too long.
     pub number: u64,
@@ -240,8 +240,8 @@ pub fn elms(code: &[u8]) -> Result<Option<Elms<'_>>, Refusal> {
     }
 }
 
-/// Hands out the elms of an F code that is in the grammar (else refusal 6) and
-/// keeps to the stack (else refusal 7).
+/// Hands out the elms of an F code that is in the grammar (else refusal 6), keeps to
+/// the stack (else refusal 7) and ends with exactly one entry (else refusal 18).
 fn checked_elms<'c>(elms: Elms<'c>, mut take: impl FnMut(Elm<'c>)) -> Result<(), Refusal> {
     let mut depth = Some(0);
     for elm in elms {
@@ -249,10 +249,12 @@ fn checked_elms<'c>(elms: Elms<'c>, mut take: impl FnMut(Elm<'c>)) -> Result<(),
         depth = depth.and_then(|depth| depth_after(depth, &elm));
         take(elm);
     }
-    // Grammar comes first: only a code that was read to its end can misuse the
-    // stack.
+    // Each refusal is tried on the whole code before the next: only a code that was
+    // read to its end can misuse the stack, and only one that never did can leave
+    // entries over.
     match depth {
-        Some(_) => Ok(()),
+        Some(1) => Ok(()),
+        Some(_) => Err(Refusal::EntriesLeftOver),
         None => Err(Refusal::StackMisused),
     }
 }
@@ -659,7 +661,7 @@ mod tests {
         for (code, loads, others, patterns, tests) in [
             ("P(1N);(2A'-'0X)", 0, 0, 1, 4),
             ("F;1;(P(1N);(2A))", 1, 0, 1, 2),
-            ("F;1;(P(1N));(L);P;(P(''\"\"))", 1, 2, 2, 3),
+            ("F;1;(P(1N));(L);P;(P(''\"\"));:", 1, 3, 2, 3),
             ("F;1;P;+", 1, 2, 0, 0),
         ] {
             let counts = Counts {
@@ -679,12 +681,46 @@ mod tests {
     #[test]
     fn stack_rules() {
         for code in [
-            "F;+", "F;1;+", "F;1;_", "F;P", "F;(L)", "F;1;2;[]", "F;1;+;2;2;2",
+            "F;+", "F;1;+", "F;1;_", "F;P", "F;(L)", "F;1;2;[]", "F;1;+;2;2;2", "F;1;2;3;[];+",
         ] {
             assert_eq!(refusal(code), 7, "{code}");
         }
-        assert_eq!(refusal(&format!("F{}", ";'1'".repeat(16))), 0);
         assert_eq!(refusal(&format!("F{}", ";'1'".repeat(17))), 7);
         assert_eq!(refusal(&format!("F{};P", ";'1'".repeat(16))), 7);
+    }
+
+    #[test]
+    fn entries_left_over() {
+        for code in [
+            "F;1;2", "F;1;2;3;+", "F;1;P", "F;1;2;_", "F;1;2;(L)", "F;LPV;''", "F;1;P;P;[];P",
+        ] {
+            assert_eq!(refusal(code), 18, "{code}");
+        }
+        assert_eq!(refusal("F;1;2;ZZ"), 6);
+        for literals in 1..=16 {
+            let code = format!("F{}", ";'1'".repeat(literals));
+            let joins = ";:".repeat(literals - 1);
+            assert_eq!(refusal(&code), if literals == 1 { 0 } else { 18 }, "{code}");
+            assert_eq!(refusal(&[code, joins].concat()), 0, "{literals}");
+        }
+    }
+
+    /// The first bad code decides, whatever is wrong with those behind it.
+    #[test]
+    fn first_bad_code() {
+        for (codes, number, refusal) in [
+            (["F;1;2", "ZZ", "F;+"], 1, 18),
+            (["L", "F;1;2", "ZZ"], 2, 18),
+            (["F;1", "F;1;2;+", "F;1;2"], 3, 18),
+            (["F;+", "F;1;2", "ZZ"], 1, 7),
+            (["L", "ZZ", "F;1;2"], 2, 6),
+        ] {
+            let bad = check(&codes.map(str::as_bytes).join(&VALUE_MARK)).expect_err("a bad code");
+            assert_eq!(
+                (bad.number, bad.refusal.number()),
+                (number, refusal),
+                "{codes:?}"
+            );
+        }
     }
 }

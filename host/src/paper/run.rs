@@ -49,7 +49,7 @@ pub fn convert(
     answer.finish()
 }
 
-/// The most that a conversion can cost: refusals 1 to 7, as before a run.
+/// The most that a conversion can cost: refusals 1 to 7 and 18, as before a run.
 pub fn ceiling(record: &[u8], code: &[u8], at: Address) -> Result<u64, Refusal> {
     record::admit(record, at)?;
     let counts = grammar::check(code).map_err(|bad| bad.refusal)?;

@@ -1,7 +1,8 @@
-//! The examples of document 01 and of requests L1 to L4 of document 02, and the
+//! The examples of document 01 and of requests L1 to L5 of document 02, and the
 //! points at which their readings part.
 
 mod algebra;
+mod entries;
 
 use sundewfrill_host::outcome::{Address, Ceiling, Check, Convert, Implementation, TypedDate};
 use sundewfrill_host::{paper, SCRATCH_LENGTH};
@@ -63,6 +64,7 @@ pub fn run(implementation: &Implementation) {
     checking_patterns(implementation);
     typed_dates(implementation);
     algebra::run(implementation);
+    entries::run(implementation);
 }
 
 /// Steps and budget.
@@ -101,7 +103,7 @@ fn ceilings(implementation: &Implementation) {
         ("K1^A\\B]C^D", "L", (1, 1, 0), 0, 2 * 4_097),
         ("K1^A\\B]C^D", "L", (1, 1, 2), 0, 4_097),
         ("K1^A\\B]C^D", "F;0", (0, 0, 0), 0, 1_025 + 10),
-        ("K1", "F;1;LPV]MCU", (7, 0, 0), 0, 1_025 + 2 + 2 * 4_097),
+        ("K1", "F;1;LPV;:]MCU", (7, 0, 0), 0, 1_025 + 2 + 3 * 4_097),
         ("K1", "", whole, 0, 0),
         ("K1^10]20^3", "F;1;(P(1N);(2A))", whole, 0, 8_220),
         ("K1", "P(1N);(2A'-'0X)]L]P('')", whole, 0, 7 * 1_025 + 4_097),
@@ -114,6 +116,7 @@ fn ceilings(implementation: &Implementation) {
         ("K1", &"?".repeat(513), whole, 5, 0),
         ("K1", "L]F;1;+;?", whole, 6, 0),
         ("K1", "L]F;1;+]?", whole, 7, 0),
+        ("K1", "L]F;1;P]?", whole, 18, 0),
     ] {
         let at = Address::new(a, v, s);
         let outcome = (implementation.ceiling)(&marked(record), &marked(code), at);
@@ -281,7 +284,7 @@ fn blanks(implementation: &Implementation) {
         ("ML", " -5  ", 0, 8, "-5"),
         ("F;LPV;' 7 ';*", "6 ", 0, 15, "42"),
         ("F;LPV;'0 ';/", " 7", 11, 6, ""),
-        ("F;' 42 ';P;_", "", 0, 35, " 42 "),
+        ("F;' 42 ';P;_;:", "", 0, 52, " 42  42 "),
         ("F;'ab';'1';'  ';[]", "", 0, 14, ""),
         ("F;LPV;(MR0M);(MR2)", "5", 0, 13, "0.05"),
     ];
@@ -404,8 +407,9 @@ fn checking(implementation: &Implementation) {
         ("F;0;LPV;:]MCU", 0, 0, [1, 3, 0, 0]),
         ("]", 6, 1, [0; 4]),
         ("L]F;1;+", 7, 2, [0; 4]),
+        ("L]F;1;P", 18, 2, [0; 4]),
         ("L]F;1;+;ZZ]?", 6, 2, [0; 4]),
-        (&sixteen, 0, 0, [0, 16, 0, 0]),
+        (&sixteen, 18, 1, [0; 4]),
         (&seventeen, 7, 1, [0; 4]),
         (&"x".repeat(512), 6, 1, [0; 4]),
         (&"x".repeat(513), 5, 0, [0; 4]),
@@ -441,8 +445,16 @@ fn checking_patterns(implementation: &Implementation) {
     }
 }
 
-/// Fails unless checking a string gives this refusal, code number and counts.
-fn checked(implementation: &Implementation, code: &str, expected: (u64, u64, [u64; 4])) {
+/// A refusal, a code number, and counts.
+type Checked = (u64, u64, [u64; 4]);
+
+/// Fails unless checking a string, its marks drawn, gives this.
+fn checked(implementation: &Implementation, code: &str, expected: Checked) {
+    checked_bytes(implementation, &marked(code), expected);
+}
+
+/// The same of a string as it is.
+fn checked_bytes(implementation: &Implementation, code: &[u8], expected: Checked) {
     let (refusal, code_number, [loads, others, patterns, tests]) = expected;
     let expected = Check {
         refusal,
@@ -452,7 +464,8 @@ fn checked(implementation: &Implementation, code: &str, expected: (u64, u64, [u6
         patterns,
         tests,
     };
-    assert_eq!((implementation.check)(&marked(code)), expected, "{code}");
+    let shown = code.escape_ascii();
+    assert_eq!((implementation.check)(code), expected, "{shown}");
 }
 
 /// Typed dates.

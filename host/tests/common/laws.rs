@@ -1,6 +1,7 @@
 //! What documents 01 and 02 promise of every call, whoever carries it out.
 
 pub mod algebra;
+pub mod codes;
 
 use std::fmt::Display;
 use std::ops::RangeInclusive;
@@ -109,7 +110,7 @@ pub fn check(call: &CheckCall, outcome: &Check) {
     law(none, "tests where there are P codes", call, outcome);
     let numbered = match outcome.refusal {
         0 | 5 => outcome.code_number == 0,
-        6 | 7 => (1..=codes).contains(&outcome.code_number),
+        6 | 7 | 18 => (1..=codes).contains(&outcome.code_number),
         _ => false,
     };
     law(numbered, "the number of a bad code", call, outcome);
@@ -135,7 +136,7 @@ pub fn convert(call: &ConvertCall, outcome: &Convert, buffers: &Buffers) {
         call,
         outcome,
     );
-    let never_began = (1..=8).contains(&outcome.refusal);
+    let never_began = matches!(outcome.refusal, 1..=8 | 18);
     law(
         !never_began || outcome.steps == 0,
         "no steps before the run",
@@ -178,7 +179,7 @@ pub fn within_ceiling(call: &ConvertCall, outcome: &Convert, ceiling: &Ceiling) 
 /// Whether an outcome of converting and a ceiling can be those of one call.
 pub fn is_within(outcome: &Convert, ceiling: &Ceiling) -> bool {
     let before_run = match outcome.refusal {
-        refusal @ 1..=7 => refusal,
+        refusal @ (1..=7 | 18) => refusal,
         _ => 0,
     };
     before_run == ceiling.refusal && outcome.steps <= ceiling.ceiling

@@ -13,6 +13,7 @@ use super::super::generator::NEAR_MISSES;
 use super::super::laws::{came_to_end, DAYS};
 use super::super::numbers::bare_value;
 use super::blanks::{ADDRESS_BLANKS, BLANKS, FORMS, RELATIONS, TYPED_BLANKS};
+use super::entries::ENTRIES;
 use super::masks::{NEGATIVE_HALF, POSITIVE_HALF, SCALED};
 use super::patterns::{PASSES, PATTERN_STRINGS};
 use super::steps::{deepest, STEPS};
@@ -34,12 +35,12 @@ impl Coverage {
 
     /// Fails unless checking has reached everything.
     pub fn require_of_check(&self) {
-        self.require("check", &[5, 6, 7], &[&STEPS.concat(), &strings()]);
+        self.require("check", &[5, 6, 7, 18], &[&STEPS.concat(), &strings()]);
     }
 
     /// Fails unless converting has reached everything.
     pub fn require_of_convert(&self) {
-        let refusals: Vec<u64> = (1..=16).collect();
+        let refusals: Vec<u64> = (1..=16).chain([18]).collect();
         let steps = STEPS.concat();
         let ends = [NUMBER_ENDS, RESULT_ENDS, DAY_ENDS].concat();
         let given = [PASSES.as_slice(), &POSITIVE_HALF, &NEGATIVE_HALF, &SCALED].concat();
@@ -58,7 +59,7 @@ impl Coverage {
 
     /// Fails unless the ceiling has reached everything.
     pub fn require_of_ceiling(&self) {
-        let refusals: Vec<u64> = (1..=7).collect();
+        let refusals: Vec<u64> = (1..=7).chain([18]).collect();
         let tags: [&[&str]; 4] = [&STEPS.concat(), &PLACES, &strings(), &CEILINGS];
         self.require("ceiling", &refusals, &tags);
     }
@@ -77,13 +78,13 @@ impl Coverage {
 
     /// Fails unless the program has reached everything.
     pub fn require_of_program(&self) {
-        self.require("program", &[4, 6, 7, 10, 12], &[&ADDRESS_BLANKS]);
+        self.require("program", &[4, 6, 7, 10, 12, 18], &[&ADDRESS_BLANKS]);
     }
 }
 
 /// What code strings must reach.
 fn strings() -> Vec<&'static str> {
-    [STRINGS.as_slice(), &PATTERN_STRINGS, &NEAR_MISSES].concat()
+    [STRINGS.as_slice(), &ENTRIES, &PATTERN_STRINGS, &NEAR_MISSES].concat()
 }
 
 const PLACES: [&str; 12] = [
@@ -99,10 +100,11 @@ const REPLACES: [&str; 10] = [
 const STRINGS: [&str; 5] = [
     "code string of 512", "code string of 513", "stack of 16", "stack of 17", "entry not there",
 ];
-const CONVERTS: [&str; 13] = [
+const CONVERTS: [&str; 14] = [
     "missing place", "element of 1,024", "element of 1,025", "MX on 512", "MX on 513",
     "longest record run", "answer over 65,536", "budget met exactly", "budget one short",
     "output met exactly", "output one short", "scratch of 20,480", "scratch of 20,479",
+    "18 and scratch short",
 ];
 const CEILINGS: [&str; 8] = [
     "ceiling of a missing place",
@@ -309,6 +311,7 @@ impl Coverage {
         self.tag_until("entry not there", || {
             refusal == 7 && deepest(code).is_none()
         });
+        self.entries(code, refusal);
         self.pattern_string(code, refusal);
     }
 
@@ -335,6 +338,8 @@ impl Coverage {
         let scratch = call.scratch_length;
         self.tag_if(accepted && scratch == 20_480, "scratch of 20,480");
         self.tag_if(refusal == 8 && scratch == 20_479, "scratch of 20,479");
+        let both = refusal == 18 && scratch < 20_480;
+        self.tag_if(both, "18 and scratch short");
     }
 
     /// Notes the limits of an element that is converted by itself.

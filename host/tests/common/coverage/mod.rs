@@ -1,10 +1,11 @@
 //! What generated calls have reached: every refusal, every code letter, every
 //! elm, every mask option, every kind of test, every limit on both sides, the
-//! halves at which masks round, blanks wherever a number is read, and every
-//! operator and operand of an A code.
+//! halves at which masks round, blanks wherever a number is read, every operator
+//! and operand of an A code, and the entries that F codes leave.
 
 mod algebra;
 mod blanks;
+mod entries;
 mod limits;
 mod masks;
 mod patterns;
@@ -14,11 +15,13 @@ mod words;
 
 use std::collections::BTreeSet;
 
+use sundewfrill_host::Refusal;
+
 /// What was reached by the calls of one kind.
 #[derive(Debug, Default)]
 pub struct Coverage {
     /// How often each refusal number was given; 0 counts the accepted calls.
-    refusals: [u64; 18],
+    refusals: [u64; Refusal::ALL.len() + 1],
     tags: BTreeSet<&'static str>,
     /// Whether there are too few calls to reach everything.
     short: bool,

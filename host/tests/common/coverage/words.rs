@@ -5,11 +5,12 @@ use super::Coverage;
 
 /// Each call's letter with the refusals that it can give at the program; 0 is none. Any
 /// other letter counts as b.
-const ANSWERS: [(u8, u64, &str); 28] = [
+const ANSWERS: [(u8, u64, &str); 30] = [
     (b'c', 0, "check: accepted"),
     (b'c', 5, "check: 5"),
     (b'c', 6, "check: 6"),
     (b'c', 7, "check: 7"),
+    (b'c', 18, "check: 18"),
     (b'd', 0, "date: accepted"),
     (b'd', 5, "date: 5"),
     (b'd', 6, "date: 6"),
@@ -34,6 +35,7 @@ const ANSWERS: [(u8, u64, &str); 28] = [
     (b'b', 5, "ceiling: 5"),
     (b'b', 6, "ceiling: 6"),
     (b'b', 7, "ceiling: 7"),
+    (b'b', 18, "ceiling: 18"),
 ];
 
 /// What a line says of an accepted call, by how it begins.
@@ -81,7 +83,7 @@ impl Coverage {
     /// Fails unless the program has reached everything.
     pub fn require_of_words(&self) {
         let (answers, said) = (ANSWERS.map(|answer| answer.2), SAID.map(|said| said.1));
-        let refusals = [1, 2, 3, 4, 5, 6, 7, 9, 12, 17];
+        let refusals = [1, 2, 3, 4, 5, 6, 7, 9, 12, 17, 18];
         self.require("words", &refusals, &[&answers, &said, &TYPED]);
     }
 }

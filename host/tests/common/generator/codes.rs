@@ -72,8 +72,23 @@ fn code(rng: &mut Rng) -> (Vec<u8>, Kind) {
     }
 }
 
-/// An F code; mostly one that keeps to its stack.
+/// An F code; mostly one that keeps to its stack and ends with one entry.
 fn function(rng: &mut Rng) -> Vec<u8> {
+    let (mut function, depth) = opened(rng);
+    let entries = match rng.below(50) {
+        0..=2 => 2,
+        3 => rng.between(3, 14) as usize,
+        4 => STACK_DEPTH - 1,
+        5 | 6 => STACK_DEPTH,
+        7 => STACK_DEPTH + 1,
+        _ => 1,
+    };
+    end_with(rng, &mut function, depth, entries);
+    function
+}
+
+/// An F code that is not brought to its end yet, and the entries that it holds there.
+fn opened(rng: &mut Rng) -> (Vec<u8>, usize) {
     let careful = !rng.one_in(12);
     let eager = rng.one_in(12);
     let elms = match rng.below(12) {
@@ -98,14 +113,35 @@ fn function(rng: &mut Rng) -> Vec<u8> {
                 break elm;
             }
         };
-        if function.len() + text.len() > CODE_LENGTH {
+        // An operator for each entry must still have room behind it.
+        if function.len() + text.len() + 2 * depth > CODE_LENGTH {
             break;
         }
         depth = (depth.max(takes) - takes + puts).min(STACK_DEPTH);
         function.push(b';');
         function.extend(text);
     }
-    function
+    (function, depth)
+}
+
+/// Brings an F code of `depth` entries to so many, by operators or by more operands.
+fn end_with(rng: &mut Rng, function: &mut Vec<u8>, mut depth: usize, entries: usize) {
+    while depth > entries {
+        let (sign, fewer) = match rng.below(12) {
+            0 if depth >= entries + 2 => ("[]", 2),
+            0 | 1 => (*rng.pick(&["=", "#", ">", "<", "]", "["]), 1),
+            2 | 3 => (*rng.pick(&["+", "-", "*", "/", "R"]), 1),
+            _ => (":", 1),
+        };
+        depth -= fewer;
+        function.push(b';');
+        function.extend_from_slice(sign.as_bytes());
+    }
+    for _ in depth..entries {
+        let operand = *rng.pick(&["1", "LPV", "''", "'x'", "\"7\"", "P", "2R"]);
+        function.push(b';');
+        function.extend_from_slice(operand.as_bytes());
+    }
 }
 
 /// An elm with the entries that it takes and puts.

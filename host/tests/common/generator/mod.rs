@@ -223,7 +223,7 @@ fn vast_run(rng: &mut Rng) -> (Vec<u8>, Vec<u8>, Address) {
     let mark = *rng.pick(&[paper::VALUE_MARK, paper::SUBVALUE_MARK]);
     record.resize(paper::RECORD_LENGTH, mark);
     let one = *rng.pick(&[
-        "L", "F;1", "F;0RR", "F;LPV;1", "F;1;2;3;4;5;6;7;8", "P(1N)", "F;1;(P(0N'a'))",
+        "L", "F;1", "F;0RR", "F;LPV;1;:", "F;1;2;3;4;5;+;+;+;+", "P(1N)", "F;1;(P(0N'a'))",
     ]);
     let most = (paper::CODE_LENGTH + 1) / (one.len() + 1);
     let count = rng.between(1, most as u64) as usize;

@@ -113,12 +113,13 @@ fn record_word(rng: &mut Rng, mut record: Vec<u8>) -> Vec<u8> {
     record
 }
 
-/// A code string, every other time with what earns refusal 5, 6 or 7.
+/// A code string, every other time with what earns refusal 5, 6, 7 or 18.
 fn code_word(rng: &mut Rng, code: Vec<u8>) -> Vec<u8> {
-    match rng.below(6) {
+    match rng.below(8) {
         0 => too_long(rng, code),
         1 => [code.as_slice(), b"\xfd?"].concat(),
         2 => [code.as_slice(), b"\xfdF;1;+"].concat(),
+        3 => [code.as_slice(), b"\xfdF;1;2"].concat(),
         _ => code,
     }
 }
