@@ -3,8 +3,8 @@
 
 # How much of a text is shown.
 SHOWN=60
-# "code string 512", "any element .. 1,024", "a 0 to 999; v and s 0 to 32,768"
-STRING_MOST=512 ELEMENT_MOST=1024 ATTRIBUTE_MOST=999 VALUE_MOST=32768
+# "code string 512", "any element .. 1,024", "a 0 to 999; v and s 0 to 32,768", "stack 16 entries"
+STRING_MOST=512 ELEMENT_MOST=1024 ATTRIBUTE_MOST=999 VALUE_MOST=32768 ENTRIES_MOST=16
 
 # Marks as they are drawn.
 drawn() { printf '%s' "$1" | tr '\374\375\376' '\\]^'; }
@@ -59,7 +59,7 @@ about_call() { # ADDRESS STRING RECORD NUMBER, the record's marks raw or drawn
     case $4 in
     4) about_address "$@" ;;
     5) about_length "$2" ;;
-    6 | 7) about_code "$2" "$(drawn "$3")" "$4" ;;
+    6 | 7 | 18) about_code "$2" "$(drawn "$3")" "$4" ;;
     9 | 1[0-4]) about_element "$@" ;;
     esac
 }
@@ -97,7 +97,7 @@ about_length() { # STRING
     say_code "$number" "${codes[@]}"
 }
 
-# The first bad code, by the check, and what was probably meant.
+# The first bad code, by the check, and what was probably meant, or what it leaves over.
 about_code() { # STRING RECORD NUMBER
     local codes verdict number
     mapfile -t codes < <(codes_of "$1")
@@ -105,11 +105,21 @@ about_code() { # STRING RECORD NUMBER
     number=${verdict##* = }
     [[ $number =~ ^[1-9][0-9]*$ ]] || return
     say_code "$number" "${codes[@]}"
-    if [ "$3" = 7 ]; then
-        guess_elm 7 "${codes[number - 1]}"
-    else
-        guess_code "${codes[number - 1]}" "$2"
-    fi
+    case $3 in
+    7) guess_elm 7 "${codes[number - 1]}" ;;
+    18) about_entries "${codes[number - 1]}" ;;
+    *) guess_code "${codes[number - 1]}" "$2" ;;
+    esac
+}
+
+# How many entries an F code leaves, by the check: one more than the `:` that make one of them; nothing is said where these make the code too long.
+about_entries() { # CODE
+    local closed=$1 entries=1 number=18
+    while [ "$number" = 18 ] && [ $((entries += 1)) -le "$ENTRIES_MOST" ]; do
+        closed=$closed\;:
+        number=$(verdict "$closed")
+    done
+    [ "$number" != 0 ] || say "$entries entries are left at the end"
 }
 
 # What is no address, and what was probably meant; or what is wrong with one.

@@ -20,7 +20,7 @@ warn_of_elements() { # ADDRESS RECORD
 warn_of_codes() { # REFUSAL RECORD CODE...
     [ $# -ne 3 ] || [ -n "$3" ] || warn 'the code is empty, so nothing is converted'
     case $1 in
-    [1-8]) ;;
+    [1-8] | 18) ;;
     *) warn_of_loads "${@:2}" ;;
     esac
 }
