@@ -50,9 +50,9 @@ const codes = (() => {
             this.date.input.setAttribute('aria-label', 'Date typed for code ' + number);
         }
 
-        // What is known of a refusal that this line causes: the elm, or the element and what the line was given.
+        // What is known of a refusal that this line causes: the elm, the entries, or the element and what the line was given.
         known(shown) {
-            if (shown.bad) return this.knownOfElm(shown.bad).concat(this.knownAsMeant(shown.bad));
+            if (shown.bad) return this.knownOfElm(shown.bad).concat(this.knownOfEntries(shown.bad), this.knownAsMeant(shown.bad));
             const { given } = shown.culprit;
             const which = words.refusedAt(shown) + '. This code was given ';
             const size = ', ' + words.counted(given.length, 'byte') + '.';
@@ -72,6 +72,10 @@ const codes = (() => {
             const bad = line.text.slice(elm.from, elm.to);
             const what = bad === '' ? 'An elm is missing here: ' : 'It goes wrong here: ';
             return [[what, make('code', {}, line.text.slice(0, elm.from), make('mark', { text: bad || '␣' }), line.text.slice(elm.to))]];
+        }
+
+        knownOfEntries({ entries }) {
+            return entries === null ? [] : [[entries + ' entries are left at the end: ' + (entries - 1) + ' too many.']];
         }
 
         // What was probably meant, or else the form of such a code.

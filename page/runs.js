@@ -1,10 +1,14 @@
 'use strict';
 // What the page asks of the calls: an answer with what stands after each line, and of a refusal the line and the element that caused it.
 const runs = (() => {
-    // Refused before anything runs, and while it runs.
-    const BAD_CODE = [6, 7];
+    // An F code that ends with more than one entry; the stack holds 16 at most.
+    const LEFT_OVER = 18;
+    const MOST_ENTRIES = 16;
+    // Refused for one of its codes before anything runs, while it runs, and when it has run. Every other number is that of something that never ran.
+    const BAD_CODE = [6, 7, LEFT_OVER];
     const IN_RUN = (refusal) => refusal >= 9 && refusal <= 15;
-    const ran = (refusal) => refusal === 0 || refusal >= 9;
+    const SHORT_OUTPUT = 16;
+    const ran = (refusal) => refusal === 0 || IN_RUN(refusal) || refusal === SHORT_OUTPUT;
 
     // One line of the codes. An empty one is none, and an A code stands for its F text.
     function lineOf(text) {
@@ -57,6 +61,15 @@ const runs = (() => {
         return { from: Math.min(good, text.length), to: next < 0 ? text.length : next };
     }
 
+    // How many entries a code that is refused for them ends with, by the check: each join that is put behind it makes two of them one. Null where the
+    // joins have no room.
+    function entriesLeft(text) {
+        for (let entries = 2; entries <= MOST_ENTRIES; entries++) {
+            if (sundewfrill.check(bytes.of(text + ';:'.repeat(entries - 1))).refusal === 0) return entries;
+        }
+        return null;
+    }
+
     const verdict = (text) => (text[0] === 'A' ? sundewfrill.algebra(bytes.of(text)) : sundewfrill.check(bytes.of(text))).refusal;
 
     // What was probably meant: capitals and perhaps no blanks outside of quotes. Nothing is offered that the calls would refuse.
@@ -74,12 +87,15 @@ const runs = (() => {
         return codes.length > 1 && codes.every((code) => verdict(code) === 0) ? codes : null;
     }
 
-    // The bad line of a string that is refused with 6 or 7; what an A code is refused with is told in place of the 6 that it would be as a code.
+    // The bad line of a string that is refused for one of its codes; what an A code is refused with is told in place of the 6 that it would be as a
+    // code. Of entries that are left over no one elm is the fault.
     function badLine(lines, refusal) {
         const line = lines.find(({ code }) => sundewfrill.check(code).refusal !== 0);
         const told = (line.formula && line.formula.refusal) || refusal;
-        const isF = line.text.startsWith('F;');
-        return { line, refusal: told, elm: isF ? badElm(line.text, refusal) : null, meant: meant(line.text), several: severalIn(line.text) };
+        const isLeftOver = refusal === LEFT_OVER;
+        const elm = line.text.startsWith('F;') && !isLeftOver ? badElm(line.text, refusal) : null;
+        const entries = isLeftOver ? entriesLeft(line.text) : null;
+        return { line, refusal: told, elm, entries, meant: meant(line.text), several: severalIn(line.text) };
     }
 
     // The first element whose turn is refused, where codes look at nothing but their element: by halves, each over a record of the first elements.

@@ -6,7 +6,9 @@ const cases = (() => {
     const PLAIN = ['MCU', 'MCL', 'MCT', 'MCA', 'MCN', 'MC/A', 'MC/N', 'MX', 'MY', 'MY', 'ML2', 'MR2,$', 'MR(#4)', 'MR2(#6)', 'MR9', 'D', 'D2/', 'D4-',
         'T2', 'T2,3', 'L', 'L2', 'L1,3', 'G1-1', 'G,1', 'P(2N);(3A)', 'F;LPV;LPV;:', 'F;LPV;\'1\';+', 'F;LPV;\'0\';/', 'F;\'a\';LPV;:', 'F;LPV;(MCU);(L)'];
     const LOADING = ['F;1', 'F;1;2;*', 'F;1;2R;/', 'F;1;2;:', 'F;2;1;R', 'F;1;(MR2)', 'F;3RR;1;-', 'F;LPV;2;+', 'A1+2', 'A1*\'3\'', 'A1:2', 'AR(1,2)'];
-    const BAD = ['mcu', 'F;+', 'F;1;', 'A1+', 'A', 'X', 'MR2 ', 'F;1;+', 'F' + ';1'.repeat(17)];
+    // F codes that end with several entries, and how many.
+    const LEFT_OVER = new Map([['F;1;2', 2], ['F;LPV;P;P', 3], ['F;1;2;3;\'a\';_', 4], ['F;1;2;:;LPV', 2], ['F' + ';1'.repeat(16), 16]]);
+    const BAD = ['mcu', 'F;+', 'F;1;', 'A1+', 'A', 'X', 'MR2 ', 'F;1;+', 'F' + ';1'.repeat(17), ...LEFT_OVER.keys()];
     const TEXTS = ['', '', '1', '12', '-7', '0', 'abc', 'AB', '4142', 'FE', '41FB', '99999999', '999999999999999', '1.5', '10000', 'x-y-z', ' 5 ', 'é', 'a,b'];
 
     // The same numbers at every run: mulberry32.
@@ -120,6 +122,13 @@ const cases = (() => {
         wrong.same('culprit', whose, brute.refusal === 0 ? null : { index: brute.index, left: brute.left, line: brute.line, given: brute.given });
     }
 
+    function sameBad(wrong, told, lines, bad) {
+        const { text, refusal } = lines[bad];
+        wrong.same('bad line', [told.refusal, told.coded.indexOf(told.bad.line), told.culprit, told.steps], [refusal, bad, null, 0]);
+        wrong.same('entries left', told.bad.entries, LEFT_OVER.get(text) || null);
+        wrong.same('an elm is at fault', told.bad.elm !== null, text.startsWith('F;') && !LEFT_OVER.has(text));
+    }
+
     // What is wrong with what runs.run says of a case, as words; nothing if nothing is.
     function wrongWith({ attributes, address, texts, budget }, told) {
         const record = bytesOf(attributes);
@@ -129,7 +138,7 @@ const cases = (() => {
         sameElements(wrong, record, told.elements, elements);
         const lines = texts.filter((text) => text !== '').map(codeOf);
         const bad = lines.findIndex(({ refusal }) => refusal !== 0);
-        if (bad >= 0) wrong.same('bad line', [told.refusal, told.coded.indexOf(told.bad.line), told.culprit], [lines[bad].refusal, bad, null]);
+        if (bad >= 0) sameBad(wrong, told, lines, bad);
         const codes = lines.slice(0, bad < 0 ? lines.length : bad).map(({ code }) => code);
         sameLines(wrong, record, at, told, codes);
         if (bad < 0) sameRun(wrong, told, byTurns(record, elements, codes, budget));

@@ -60,6 +60,24 @@ test('an answer that is nearly the one that is wanted is not it', async (t) => {
     assert.equal((await seen(page)).verdict, 'Not yet the answer that is wanted.');
 });
 
+test('codes that leave an entry over solve nothing, though their last entry is the answer', async (t) => {
+    const page = await on(t);
+    const others = [[9, 'F;1;1;2;*;3RR;+'], [10, 'F;2R;1;2R;/'], [9, 'F;1;2;*;3RR;+;P'], [10, 'F;1;2R;/;1;_']];
+    for (const [number, code] of others) {
+        await choose(page, number);
+        await typeCodes(page, [code, 'MR2$']);
+        const { said, verdict, answer } = await seen(page);
+        assert.deepEqual([said.slice(0, 11), verdict, answer], ['Refusal 18:', 'Not yet the answer that is wanted.', null], code);
+        assert.equal(await textOf(page, 'solved-count'), '', code);
+    }
+    await typeCodes(page, ['F;1;2R;/', 'MR2$']);
+    assert.match((await seen(page)).verdict, /^Solved/);
+    const empty = await on(t, linkOf('K1^ab', '1,0,0', ['F;1;\'\''], { title: 'Nothing', wanted: '' }));
+    assert.equal((await seen(empty)).verdict, 'Not yet the answer that is wanted.', 'a refusal is no answer of nothing');
+    await typeCodes(empty, ['F;\'\'']);
+    assert.match((await seen(empty)).verdict, /^Solved/);
+});
+
 test('a solution can be looked at, and the next exercise opened', async (t) => {
     const page = await on(t);
     await choose(page, 2);
@@ -94,6 +112,20 @@ test('what a teacher sends is what a learner opens', async (t) => {
         assert.deepEqual(await taskOf(learner), ['Order & <b>total</b> #7', 'Say 100% + "more": a^b]c\\d', 'Wanted: 3.00\\1.60']);
         assert.equal(await learner.evaluate(() => document.getElementById('budget').value), '5,000');
     }
+});
+
+test('what is refused is sent with no answer that is wanted', async (t) => {
+    const page = await on(t, linkOf('K1^10^3', '1,0,0', ['F;1;2']));
+    const wantedIn = (link) => page.evaluate((text) => {
+        const { wanted } = links.read(new URL(text).hash);
+        return wanted && bytes.drawn(wanted);
+    }, link);
+    const note = 'The codes are refused, so that no answer is wanted. ';
+    assert.equal(await wantedIn(await send(page, { title: 'one', task: '', withCodes: true })), null);
+    assert.ok((await textOf(page, 'link-note')).startsWith(note));
+    await typeCodes(page, ['F;1;2;+']);
+    assert.equal(await wantedIn(await page.evaluate(() => document.getElementById('link-text').value)), '13');
+    assert.ok(!(await textOf(page, 'link-note')).startsWith(note));
 });
 
 test('the link follows what is typed while it is open', async (t) => {

@@ -4,12 +4,12 @@ import assert from 'node:assert/strict';
 import { readFileSync } from 'node:fs';
 import { after, before, test } from 'node:test';
 import * as chromium from './chromium.mjs';
-import { opened } from './learner.mjs';
+import { opened, read } from './learner.mjs';
 import { examplesOf } from './transcripts.mjs';
 
 const BROWSER_PART = readFileSync(new URL('cases.browser.js', import.meta.url), 'utf8');
 const CASES = 6000;
-const EXAMPLES = 246;
+const EXAMPLES = 254;
 
 let browser;
 let page;
@@ -24,7 +24,7 @@ test(`${CASES} runs: the culprit is the first element whose own turn is refused,
     const { ran, refusals, wrong } = await page.evaluate((count) => cases.runsOf(20261117, count), CASES);
     assert.deepEqual(wrong, [], wrong.join('\n'));
     assert.equal(ran, CASES);
-    for (const number of [0, 6, 7, 9, 10, 11, 12, 13, 14, 15]) assert.ok(refusals[number] > 5, `refusal ${number} came ${refusals[number]} times`);
+    for (const number of [0, 6, 7, 9, 10, 11, 12, 13, 14, 15, 18]) assert.ok(refusals[number] > 5, `refusal ${number} came ${refusals[number]} times`);
     t.diagnostic('how often each refusal came: ' + JSON.stringify(refusals));
 });
 
@@ -35,6 +35,8 @@ test('bytes as texts and as links come back as they were, 5,000 times', async ()
 test(`the ${EXAMPLES} examples of docs/CODES.md give in the page what is printed there`, async () => {
     const examples = examplesOf('docs/CODES.md');
     assert.equal(examples.length, EXAMPLES);
+    // another way to count them than by the heads of their tables: the rows of any table whose last cell is what the console prints
+    assert.equal(read('docs/CODES.md').match(/^\|.*\| `[0-9]+ [0-9]+ [^`]*` \|$/gm).length, EXAMPLES);
     const given = await page.evaluate((all) => all.map(({ record, codes }) => {
         const { refusal, steps, answer } = runs.run(bytes.typed(record), '1,0,0', codes, links.BUDGET);
         // a plain ^ ] or \ in an answer looks like a mark

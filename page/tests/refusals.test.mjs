@@ -35,8 +35,14 @@ async function isOfLine(page, number, line, { known = [], elm = null, at = null 
 
 const elementAt = (at, given, length) => `It is the element at ${at}. This code was given ${given}, ${length} byte${length === 1 ? '' : 's'}.`;
 
-test('docs/REFUSALS.md has the numbers 1 to 17', () => {
-    assert.deepEqual(Array.from(REFUSALS.keys()), Array.from({ length: 17 }, (_, i) => i + 1));
+test('docs/REFUSALS.md has the numbers 1 to 18', () => {
+    assert.deepEqual(Array.from(REFUSALS.keys()), Array.from({ length: 18 }, (_, i) => i + 1));
+});
+
+test('what comes to an answer, or to 9 to 16, has run; no other number has, whatever it will mean', async (t) => {
+    const page = await on(t);
+    const ran = await page.evaluate(() => Array.from({ length: 100 }, (_, refusal) => refusal).filter(runs.ran));
+    assert.deepEqual(ran, [0, 9, 10, 11, 12, 13, 14, 15, 16]);
 });
 
 test('1: a record that is too long', async (t) => {
@@ -218,4 +224,72 @@ test('17, 9, 3 and 1 by the grid, and the record stays', async (t) => {
     await page.click(cell(1, 0));
     await page.type('xx\n');
     await refused(1, full);
+});
+
+// All that a line of entries left over is told: how many it ends with, where that is known.
+async function isLeftOver(page, line, entries) {
+    const known = entries === null ? [] : [`${entries} entries are left at the end: ${entries - 1} too many.`];
+    await isOfLine(page, 18, line, { known });
+    const { lines, steps } = await seen(page);
+    assert.deepEqual(lines[line - 1].refusal, [REFUSALS.get(18).when, ...known, REFUSALS.get(18).advice]);
+    assert.equal(steps, 'Nothing ran: 0 steps.');
+}
+
+const LEFT_OVER = [
+    ['F;1;2', 2], ['F;1;P', 2], ['F;1;2;_', 2], ['F;1;2;3;+', 2], ['F;1;2;3;4;5', 5], ['F;1;(MCU);\'a;b\'', 2], ['F' + ';\'x\''.repeat(16), 16],
+];
+
+test('18: entries that are left over are counted, the line is marked and no elm', async (t) => {
+    const page = await on(t, linkOf('K1^10]20^3'));
+    for (const [code, entries] of LEFT_OVER) {
+        await fillIn(page, '[aria-label="Code 1"]', code);
+        await isLeftOver(page, 1, entries);
+    }
+    await page.type(';\'x\'');
+    await isOfLine(page, 7, 1, { known: 'It goes wrong here: F' + ';\'x\''.repeat(17), elm: '\'x\'' });
+    assert.deepEqual(page.complaints, []);
+});
+
+test('18: a join behind F;1;2 clears it and gives the answer', async (t) => {
+    const page = await on(t, linkOf('K1^10]20^3'));
+    await typeCodes(page, ['F;1;2']);
+    await isLeftOver(page, 1, 2);
+    await page.type(';');
+    await isOfLine(page, 6, 1, { known: 'An elm is missing here: F;1;2;␣', elm: '␣' });
+    await page.type(':');
+    const { answer, refusal, lines: [line], steps } = await seen(page);
+    assert.deepEqual([answer, refusal, line.bad, line.invalid, line.value], ['103]20', null, false, false, '103]20']);
+    assert.match(steps, /^61 steps\. The ceiling, known before anything runs, is 12,334;/);
+});
+
+test('18: of several lines the first bad one is marked, and those before it stand', async (t) => {
+    const page = await on(t, linkOf('K1^10]20^3', '1,0,0', ['L', 'A1:2', 'F;LPV;2R', 'F;1;2', 'MCU']));
+    await isLeftOver(page, 3, 2);
+    const { lines } = await seen(page);
+    assert.deepEqual(lines.map(({ value }) => value), ['2]2', '103]20', null, null, null]);
+    assert.equal(lines[1].formula, 'F;1;2;:', 'an A code leaves nothing over');
+    const rows = await page.evaluate(() => Array.from(document.querySelectorAll('#elements-table .rows-body [role=row]'), (row) =>
+        Array.from(row.children, (node) => node.textContent)));
+    assert.deepEqual(rows, [['1', '10', '2', '103', '', '', ''], ['2', '20', '2', '20', '', '', '']]);
+    await retype(page, '[aria-label="Code 3"]', 'F;LPV');
+    await isLeftOver(page, 4, 2);
+});
+
+test('18: tried on a code behind 6 and 7, and before any code behind it', async (t) => {
+    const page = await on(t, linkOf('K1^10]20^3', '1,0,0', ['F;1;2', 'ZZ']));
+    await isLeftOver(page, 1, 2);
+    await typeCodes(page, ['ZZ', 'F;1;2']);
+    await isOfLine(page, 6, 1);
+    await typeCodes(page, ['F;1;2;ZZ']);
+    await isOfLine(page, 6, 1, { known: 'It goes wrong here: F;1;2;ZZ', elm: 'ZZ' });
+    await typeCodes(page, ['F;1;2;3;[];+']);
+    await isOfLine(page, 7, 1, { known: 'It goes wrong here: F;1;2;3;[];+', elm: '+' });
+});
+
+test('18: where a join has no room the number is not told', async (t) => {
+    const page = await on(t, linkOf('K1^10]20^3'));
+    for (const [length, entries] of [[510, 2], [511, null], [512, null]]) {
+        await fillIn(page, '[aria-label="Code 1"]', `F;1;'${'x'.repeat(length - 6)}'`);
+        await isLeftOver(page, 1, entries);
+    }
 });

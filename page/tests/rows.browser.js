@@ -4,6 +4,8 @@ const trying = (() => {
     const PROGRAM_READS = 65536;
     const PROGRAM_BUDGET = 1000000;
     const BAD_ADDRESS = 4;
+    // What is refused before the run is refused of the ceiling too, but for the scratch, which it does not take.
+    const EARLY = [1, 2, 3, 4, 5, 6, 7, 18];
     // Above it a number is no whole one any more.
     const EXACT = BigInt(Number.MAX_SAFE_INTEGER);
     // Of more than 32 bits, and of 64 at most.
@@ -87,8 +89,7 @@ const trying = (() => {
         const [output, scratch] = [lend(outputLength), lend(scratchLength)];
         const outcome = called([record, code], output, scratch, () => sundewfrill.convert(record, code, at, budget, output, scratch));
         const most = called([record, code], null, null, () => sundewfrill.ceiling(record, code, at));
-        // what is refused before the run is refused of the ceiling too
-        const early = outcome.refusal <= 7 ? outcome.refusal : 0;
+        const early = EARLY.includes(outcome.refusal) ? outcome.refusal : 0;
         if (most.refusal !== early || outcome.steps > most.ceiling) outcome.wrong.push(`the ceiling is ${most.ceiling}, its refusal ${most.refusal}`);
         outcome.wrong.push(...most.wrong);
         return outcome;

@@ -16,8 +16,9 @@ export const FILES = {
     'L2.tsv': { check: 26, convert: 1138, ceilingof: 16, date: 24, find: 28, replace: 33, program: 49 },
     'L3.tsv': { check: 26, convert: 1007, ceilingof: 16, date: 25, find: 28, replace: 33, program: 51 },
     'L4.tsv': { check: 27, convert: 326, ceilingof: 16, date: 24, find: 28, replace: 31, program: 49, acode: 858 },
+    'L5.tsv': { check: 351, convert: 347, ceilingof: 101, date: 18, find: 21, replace: 33, program: 123, acode: 28 },
 };
-export const ROWS = 25575;
+export const ROWS = 26597;
 
 const CHUNK = 1 << 20;
 const SHOWN = 5;
