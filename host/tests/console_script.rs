@@ -227,14 +227,20 @@ X => no code is written so; the codes are F G T L MCA MC/A MCN MC/N MCU MCL MCT 
     );
 }
 
-/// A mended code that would leave entries over is not offered.
+/// The first mended code that can be read is offered, and that it is still refused for
+/// its entries is said: a later one would hide them in a literal.
 #[test]
 fn slips_beside_left_over_entries() {
     let table = r#"
-F;1;2; => an elm is missing at byte 7 of the code
+F;1;2; => did you mean 'F;1;2'? It is then refused with 18
 F;1;2;+; => did you mean 'F;1;2;+'?
-f;1;2 => F is written `F;elm;elm...`, at least one elm, a `;` before each.
-f;1 => did you mean 'F;1'?"#;
+f;1;2 => did you mean 'F;1;2'? It is then refused with 18
+f;1 => did you mean 'F;1'?
+f;1;+ => did you mean 'F;1;+'? It is then refused with 7
+FS;1;2 => did you mean 'F;1;2'? It is then refused with 18
+F;1;2;MR2 => did you mean 'F;1;2;(MR2)'? It is then refused with 18
+F;1;2;:;kg' => did you mean "F;1;2;:;'kg'"? It is then refused with 18
+F;1;2 MCU => several codes are several words: 'F;1;2' 'MCU'"#;
     for [code, said] in rows(table) {
         let known = words(&[b"check", code.as_bytes()]).refused("refusal = 6, code = 1\n");
         assert_eq!(known[1..], [said]);
@@ -245,16 +251,16 @@ f;1 => did you mean 'F;1'?"#;
 #[test]
 fn left_over_entries() {
     let table = r#"
-F;1;2;3;+ => 2
-F;1;P => 2
-F;1;2;_ => 2
-F;1;2;3;(MCU) => 3
-F;1;2;(P(1N);(2A)) => 2
-F;1;P;P;P;P;P;P;P;P;P;P;P;P;P;P => 15
-F;1;1;1;1;1;1;1;1;1;1;1;1;1;1;1;1 => 16"#;
+F;1;2;3;+ => 2 entries are left at the end: 1 too many
+F;1;P => 2 entries are left at the end: 1 too many
+F;1;2;_ => 2 entries are left at the end: 1 too many
+F;1;2;3;(MCU) => 3 entries are left at the end: 2 too many
+F;1;2;(P(1N);(2A)) => 2 entries are left at the end: 1 too many
+F;1;P;P;P;P;P;P;P;P;P;P;P;P;P;P => 15 entries are left at the end: 14 too many
+F;1;1;1;1;1;1;1;1;1;1;1;1;1;1;1;1 => 16 entries are left at the end: 15 too many"#;
     for [code, entries] in rows(table) {
         let place = format!("code 2 of 3, at byte 3 of the code string: `{code}`");
-        let known = [place, format!("{entries} entries are left at the end")];
+        let known = [place, entries.to_string()];
         let code = code.as_bytes();
         let call = words(&[b"1,0,0", b"K1^1^2^3", b"L", code, b"ZZ"]);
         assert_eq!(call.refused("18 0 \n"), known);
@@ -271,13 +277,13 @@ F;1;1;1;1;1;1;1;1;1;1;1;1;1;1;1;1 => 16"#;
         let code = format!("F;1;'{}'", "x".repeat(literal));
         let known = words(&[b"check", code.as_bytes()]).refused("refusal = 18, code = 1\n");
         let told = known.get(1).map(String::as_str);
-        let entries = is_told.then_some("2 entries are left at the end");
+        let entries = is_told.then_some("2 entries are left at the end: 1 too many");
         assert_eq!(told, entries, "{known:?}");
     }
     // the code's own length counts, not that of the string
     let long = format!("F;'{}'", "x".repeat(500));
     let known = words(&[b"check", long.as_bytes(), b"F;1;P"]).refused("refusal = 18, code = 2\n");
-    assert_eq!(known[1], "2 entries are left at the end");
+    assert_eq!(known[1], "2 entries are left at the end: 1 too many");
 }
 
 /// A code that cannot be mended is told by its form, as the reference has it.
@@ -422,7 +428,8 @@ fn swapped_words() {
 'K1^A' 1,0,0 MCU => 4 0\s\n => warning: the record `1,0,0` looks like an address: the address comes first, then the record
 MCU 1,0,0 'K1^A' => 4 0\s\n => warning: the record `1,0,0` looks like an address: the address comes first, then the record
 find 'K1^A' 1,0,0 => refusal = 4\n => warning: the record `1,0,0` looks like an address: the address comes first, then the record
-1,0,0 MCU 'K1^A' => 6 0\s\n => did you mean the record and the code the other way round? ADDRESS RECORD CODE is their order"#;
+1,0,0 MCU 'K1^A' => 6 0\s\n => did you mean the record and the code the other way round? ADDRESS RECORD CODE is their order
+1,0,0 'F;1;2' 'K1^A' => 6 0\s\n => did you mean the record and the code the other way round? ADDRESS RECORD CODE is their order"#;
     for [line, output, said] in rows(table) {
         let written = console(&line).run();
         assert!(written.lines.contains(&said), "not said: {said}{written}");
