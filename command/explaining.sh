@@ -119,7 +119,7 @@ about_entries() { # CODE
         closed=$closed\;:
         number=$(verdict "$closed")
     done
-    [ "$number" != 0 ] || say "$entries entries are left at the end"
+    [ "$number" != 0 ] || say "$entries entries are left at the end: $((entries - 1)) too many"
 }
 
 # What is no address, and what was probably meant; or what is wrong with one.

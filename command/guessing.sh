@@ -1,9 +1,15 @@
 # shellcheck shell=bash
-# For ../console, which sources it: what a learner probably meant. Nothing is guessed that the proved programs would refuse.
+# For ../console, which sources it: what a learner probably meant. Nothing is guessed that the proved programs cannot read; where they would still refuse it,
+# for its entries, that is said.
 
 # The refusal of a code string, 0 for none, by the check.
 verdict() { # STRING
     refusal_of "$(ask c "$1")"
+}
+
+# Whether codes can be read, be the entries of an F code right or not.
+readable() { # STRING
+    [[ $(verdict "$1") =~ ^(0|7|18)$ ]]
 }
 
 # The refusal of an A code.
@@ -26,12 +32,14 @@ date_verdict() { # CODE
     printf '%s\n' "$number"
 }
 
-# The first way to mend a code that a program accepts, if there is one.
+# The first way to mend a code that a program can read, if there is one, behind the refusal that it then has, 0 for none. Ways behind it read more into a
+# code than was typed: they would hide entries that are left over in a literal.
 mend() { # VERDICT-COMMAND CODE
-    local way
+    local way number
     while IFS= read -r way; do
-        if [ "$("$1" "$way")" = 0 ]; then
-            printf '%s\n' "$way"
+        number=$("$1" "$way")
+        if [ "$number" != 6 ]; then
+            printf '%s %s\n' "$number" "$way"
             return 0
         fi
     done < <(printf '%s\n' "$2" | awk -f "$root/command/mended.awk")
@@ -39,8 +47,10 @@ mend() { # VERDICT-COMMAND CODE
 }
 
 guess_mended() { # VERDICT-COMMAND CODE
-    local way
-    way=$(mend "$@") && say "did you mean $(quoted "$way")?"
+    local way but=''
+    way=$(mend "$@") || return
+    [ "${way%% *}" = 0 ] || but=" It is then refused with ${way%% *}"
+    say "did you mean $(quoted "${way#* }")?$but"
 }
 
 guess_code() { # CODE RECORD
@@ -48,7 +58,7 @@ guess_code() { # CODE RECORD
         say 'the code is empty'
     elif [ "$1" = F ]; then
         say "F is followed by ; and its elms: did the shell cut the code at the ; ? Put it in quotes: 'F;1;2;+'"
-    elif [[ $1 == *^* ]] && [ -n "$2" ] && [ "$(verdict "${2^^}")" = 0 ]; then
+    elif [[ $1 == *^* ]] && [ -n "$2" ] && readable "${2^^}"; then
         say 'did you mean the record and the code the other way round? ADDRESS RECORD CODE is their order'
     else
         guess_several "$1" || guess_mended verdict "$1" || guess_algebra "$1" || guess_unread "$1"
@@ -62,8 +72,8 @@ guess_several() { # CODE
         string=$(printf '%s' "$1" | tr -s "$between" '\375')
         [ "$string" != "$1" ] || continue
         # a literal keeps its small letters
-        [ "$(verdict "$string")" = 0 ] || [[ $1 == *[\'\"]* ]] || string=${string^^}
-        [ "$(verdict "$string")" = 0 ] || continue
+        readable "$string" || [[ $1 == *[\'\"]* ]] || string=${string^^}
+        readable "$string" || continue
         mapfile -t codes < <(codes_of "$string")
         for word in "${codes[@]}"; do words="$words $(quoted "$word")"; done
         say "several codes are several words:$words"
@@ -74,10 +84,11 @@ guess_several() { # CODE
 
 # An A code in a code's place.
 guess_algebra() { # CODE
-    local way=$1
+    local way="0 $1"
     [[ $1 == [Aa]* ]] || return 1
-    [ "$(formula_verdict "$way")" = 0 ] || way=$(mend formula_verdict "$1") || return 1
-    say "this is an A code: ./console algebra $(quoted "$way") shows the F code that it stands for"
+    [ "$(formula_verdict "$1")" = 0 ] || way=$(mend formula_verdict "$1") || return 1
+    [ "${way%% *}" = 0 ] || return 1
+    say "this is an A code: ./console algebra $(quoted "${way#* }") shows the F code that it stands for"
 }
 
 # Of a code that cannot be read, where F's elms go wrong, or the form that its letters have in the reference.
