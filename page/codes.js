@@ -82,7 +82,7 @@ const codes = (() => {
         knownAsMeant({ line, refusal, meant, several }) {
             if (refusal !== 6) return [];
             if (line.text.trim() === '') return [['The line holds blanks alone.']];
-            if (meant) return [['Did you mean ', make('code', { text: meant }), '?']];
+            if (meant) return [['Did you mean ', make('code', { text: meant.code }), meant.refusal ? '? It is then refused with ' + meant.refusal + '.' : '?']];
             if (several) return [['Several codes stand on several lines: ', ...several.map((code) => make('code', { class: 'one', text: code }))]];
             const section = reference.sectionOf(line.text);
             return section && !line.formula ? [[...reference.form(section), ' ', make('a', { href: '#' + section, text: 'More in the reference' })]] : [];

@@ -72,13 +72,15 @@ const runs = (() => {
 
     const verdict = (text) => (text[0] === 'A' ? sundewfrill.algebra(bytes.of(text)) : sundewfrill.check(bytes.of(text))).refusal;
 
-    // What was probably meant: capitals and perhaps no blanks outside of quotes. Nothing is offered that the calls would refuse.
+    // What was probably meant: capitals and perhaps no blanks outside of quotes. Nothing is offered that the calls cannot read; with it goes what it is
+    // refused with, for its entries, 0 for nothing.
     function meant(text) {
         const parts = text.match(/'[^']*'|"[^"]*"|[^'"]+|['"]/g) || [];
         const mended = (mend) => parts.map((part) => (/^['"]/.test(part) ? part : mend(part.toUpperCase()))).join('');
         const capitals = mended((part) => part);
         const ways = [capitals, mended((part) => part.replace(/\s+/g, '')), capitals.replace(/^F(?!;)/, 'F;')];
-        return ways.find((way) => way !== text && way !== '' && verdict(way) === 0) || null;
+        const code = ways.find((way) => way !== text && way !== '' && verdict(way) !== 6);
+        return code === undefined ? null : { code, refusal: verdict(code) };
     }
 
     // Several codes in one line, parted by something else than lines are.

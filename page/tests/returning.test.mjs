@@ -145,7 +145,8 @@ test('a code that is not in the grammar is told its form, what was meant, or tha
     assert.equal(await told('T3;4'), 'Form: Tn or Tm,n. m and n are 1 to 4 digits, m is at least 1. More in the reference');
     assert.equal(await told('mr2 $'), 'Did you mean MR2$?');
     assert.equal(await told("F1;'a b';:"), "Did you mean F;1;'a b';:?");
-    assert.match(await told("f1;'a b'"), /^Form: F;elm/, 'nothing is offered that ends with two entries');
+    assert.equal(await told("f1;'a b'"), "Did you mean F;1;'a b'? It is then refused with 18.");
+    assert.equal(await told('f;1;+'), 'Did you mean F;1;+? It is then refused with 7.');
     assert.equal(await told('MCA;MCU'), 'Several codes stand on several lines: MCAMCU');
     assert.equal(await told('  '), 'The line holds blanks alone.');
 });
