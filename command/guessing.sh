@@ -46,11 +46,15 @@ mend() { # VERDICT-COMMAND CODE
     return 1
 }
 
+# What is added to a guess that is refused all the same.
+refused_then() { # STOP REFUSAL
+    [ "$2" = 0 ] || printf '%s It is then refused with %s' "$1" "$2"
+}
+
 guess_mended() { # VERDICT-COMMAND CODE
-    local way but=''
+    local way
     way=$(mend "$@") || return
-    [ "${way%% *}" = 0 ] || but=" It is then refused with ${way%% *}"
-    say "did you mean $(quoted "${way#* }")?$but"
+    say "did you mean $(quoted "${way#* }")?$(refused_then '' "${way%% *}")"
 }
 
 guess_code() { # CODE RECORD
@@ -76,7 +80,7 @@ guess_several() { # CODE
         readable "$string" || continue
         mapfile -t codes < <(codes_of "$string")
         for word in "${codes[@]}"; do words="$words $(quoted "$word")"; done
-        say "several codes are several words:$words"
+        say "several codes are several words:$words$(refused_then . "$(verdict "$string")")"
         return 0
     done
     return 1

@@ -240,7 +240,7 @@ f;1;+ => did you mean 'F;1;+'? It is then refused with 7
 FS;1;2 => did you mean 'F;1;2'? It is then refused with 18
 F;1;2;MR2 => did you mean 'F;1;2;(MR2)'? It is then refused with 18
 F;1;2;:;kg' => did you mean "F;1;2;:;'kg'"? It is then refused with 18
-F;1;2 MCU => several codes are several words: 'F;1;2' 'MCU'"#;
+F;1;2 MCU => several codes are several words: 'F;1;2' 'MCU'. It is then refused with 18"#;
     for [code, said] in rows(table) {
         let known = words(&[b"check", code.as_bytes()]).refused("refusal = 6, code = 1\n");
         assert_eq!(known[1..], [said]);
@@ -608,7 +608,7 @@ fn copy(name: &str, seconds: u32) -> Folder {
     let taken = format!("mkdir -p target/bin && cp '{ROOT}'/target/bin/* target/bin");
     rt(
         &folder.path,
-        &format!("mktemp calls/XXXX && sleep {seconds} && {taken}"),
+        &format!("mktemp -p calls && sleep {seconds} && {taken}"),
     );
     folder
 }
