@@ -3,18 +3,20 @@ use Prim.Native.Nat.{ℕ, _+_, _*_, _≤_, _<_}
 use mathlib.Core.Path.{_≡_, refl, ap₂}
 use mathlib.Core.Bool.{Bool, true, false, _&&_, false≢true}
 use mathlib.Core.List.{List, [], _∷_}
-use native.Mathlib.Omega.{arith}
 use lib.ListN.{getD, take, drop}
-use lib.Dec.{eqb, ltb}
+use lib.Dec.{eqb}
 use borrow.Author.Tests.{eqb-true}
 use Rattle.paper.specs.Bytes.{if_then_else_, bytes, same-bytes}
-use Rattle.paper.specs.Dates.{leap, month-lengths, month-names, days-in}
+use Rattle.paper.specs.Dates.{leap, month-lengths, month-names}
 use Rattle.paper.proofs.Calendar.{lengths-by, lengths-are, within-all}
 use Rattle.paper.proofs.Truths.{both, below, passed}
 
--- the lengths of the months of a common year
+-- the lengths of the months, with so many days in February; and those of a common year
+abbrev pub months : ℕ → List ℕ
+months february = 31 ∷ february ∷ 31 ∷ 30 ∷ 31 ∷ 30 ∷ 31 ∷ 31 ∷ 30 ∷ 31 ∷ 30 ∷ 31 ∷ []
+
 abbrev pub lengths : List ℕ
-lengths = 31 ∷ 28 ∷ 31 ∷ 30 ∷ 31 ∷ 30 ∷ 31 ∷ 31 ∷ 30 ∷ 31 ∷ 30 ∷ 31 ∷ []
+lengths = months 28
 
 abbrev length-right : Bool → ℕ → Bool
 length-right b k = eqb (getD lengths k 0 + (if b && eqb k 1 then 1 else 0)) (getD (lengths-by b) k 0)
@@ -28,28 +30,6 @@ length-at y k h = rw lengths-are (eqb-true _ _ (passed (length-right (leap y)) 1
 
 pub length-most : (k : ℕ) → getD lengths k 0 ≤ 31
 length-most k = within-all 31 lengths k refl
-
--- the days of a common year before each month, and before its end
-abbrev pub befores : List ℕ
-befores = 0 ∷ 31 ∷ 59 ∷ 90 ∷ 120 ∷ 151 ∷ 181 ∷ 212 ∷ 243 ∷ 273 ∷ 304 ∷ 334 ∷ 365 ∷ []
-
-abbrev before-right : Bool → ℕ → Bool
-before-right b k = eqb (getD befores k 0 + (if b && ltb 1 k then 1 else 0)) (days-in k (lengths-by b))
-
-befores-right : (b : Bool) → below (before-right b) 13 ≡ true
-unfolding days-in
-befores-right true = refl
-befores-right false = refl
-
-pub before-at : (y k : ℕ) → k ≤ 12 → getD befores k 0 + (if leap y && ltb 1 k then 1 else 0) ≡ days-in k (month-lengths y)
-before-at y k h = rw lengths-are (eqb-true _ _ (passed (before-right (leap y)) 13 k (befores-right (leap y)) (omega arith)))
-
-pub before-most : (k : ℕ) → getD befores k 0 ≤ 365
-before-most k = within-all 365 befores k refl
-
-pub leap-day-most : (counts : Bool) → (if counts then 1 else 0) ≤ 1
-leap-day-most true = omega arith
-leap-day-most false = omega arith
 
 -- the months' names, three letters each
 abbrev pub names : List ℕ

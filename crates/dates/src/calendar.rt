@@ -20,9 +20,6 @@ pub(crate) const NAMES: [u8; 36] = *b"JANFEBMARAPRMAYJUNJULAUGSEPOCTNOVDEC";
 // The lengths of the months of a common year.
 const LENGTHS: [u64; 12] = [31, 28, 31, 30, 31, 30, 31, 31, 30, 31, 30, 31];
 
-// The days of a common year before each month, and before its end.
-const BEFORE: [u64; 13] = [0, 31, 59, 90, 120, 151, 181, 212, 243, 273, 304, 334, 365];
-
 // "Gregorian rules both ways"
 fn leap(year: u64) -> bool
     ensures { λ r. ⌜ r ≡ leap year ⌝ }
@@ -35,6 +32,13 @@ fn leap_day(counts: bool) -> u64
     ensures { λ r. ⌜ r ≡ (if counts then 1 else 0) ⌝ }
 {
     if counts { 1 } else { 0 }
+}
+
+// the days that February lacks of 30 in a common year, where they count
+fn lacking(counts: bool) -> u64
+    ensures { λ r. ⌜ r ≡ (if counts then 2 else 0) ⌝ }
+{
+    if counts { 2 } else { 0 }
 }
 
 // how many days the month has, months counted from 0
@@ -50,7 +54,9 @@ fn days_before_month(year: u64, month: u64) -> u64
     requires { ⌜ month ≤ 12 ⌝ }
     ensures { λ r. ⌜ r ≡ days-in month (month-lengths year) ⌝ }
 {
-    BEFORE[month as usize] + leap_day(leap(year) & (1 < month))
+    // With 30 days in February, seven months would have 31 and five 30, evenly spread: (7 m + 5) / 12 of the seven come before month m.
+    // So 30 m + (7 m + 5) / 12 = (367 m + 5) / 12 days would come before it; from March on 2 fewer do, as February has 28, in a leap year 1, as it has 29.
+    (367 * month + 5) / 12 + leap_day((1 < month) & leap(year)) - lacking(1 < month)
 }
 
 // the days from 1 January of year 1 to 1 January of the year
@@ -74,20 +80,15 @@ fn year_of(n: u64) -> u64
     year
 }
 
-// the date of the year's n-th day, from 0: no month has more than 31 days, so that a division gives its month or the one before
+// the date of the year's n-th day, from 0: with 30 days in February it would be day d, and its month is the last m that has begun by then,
+// (367 m + 5) / 12 <= d, which is to say 367 m <= 12 d + 6
 fn month_day(year: u64, n: u64) -> Date
     requires { ⌜ n < days-in 12 (month-lengths year) ⌝ }
     ensures { λ r. ⌜ r ≡ code-date (month-day year 1 (month-lengths year) n) ⌝ }
 {
-    let month = n / 31;
-    let next = days_before_month(year, month + 1);
-    if next <= n {
-        return Date {
-            year,
-            month: month + 2,
-            day: n - next + 1,
-        };
-    }
+    let from_march = days_before_month(year, 2) <= n;
+    let d = n + lacking(from_march) - leap_day(from_march & leap(year));
+    let month = (12 * d + 6) / 367;
     Date {
         year,
         month: month + 1,

@@ -3,14 +3,15 @@ use mathlib.Core.Bool.{_&&_}
 use native.Mathlib.Omega.{arith}
 use lib.Dec.{eqb}
 use borrow.Author.Needs.{needs}
-use Rattle.dates.proofs.Tables.{length-at, length-most, leap-day-most}
+use Rattle.dates.proofs.Tables.{length-at, length-most}
+use Rattle.dates.proofs.CalendarLaws.{counted-most}
 use Rattle.dates.proofs.calendar.month_length.Statement.{statement}
 use Rattle.dates.proofs.calendar.month_length.Tie as tie
 
 add-result : tie.Need-add-result
 add-result c =
     let month = c .before .before .args .month in
-    omega (arith, c .leap-day .ensures, leap-day-most (c .before .leap .result && eqb month 1), length-most month)
+    omega (arith, c .leap-day .ensures, counted-most 1 (c .before .leap .result && eqb month 1), length-most month)
 
 returns : tie.Need-returns
 returns c =
