@@ -26,7 +26,7 @@
 //!
 //! # The second implementation
 //!
-//! [`paper`] is document 01 with requests L1 to L5 of document 02 written down
+//! [`paper`] is document 01 with requests L1 to L6 of document 02 written down
 //! once more in Rust, from these, the two standards and the readings alone. The
 //! tests hold the proved library against it, and the benchmark takes it as its
 //! measure. It builds anywhere; the proved library is for x86-64 and comes in with

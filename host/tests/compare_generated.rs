@@ -5,13 +5,15 @@
 //! Needs the archive. A usual run has 1,250,000 calls with a fixed seed; each
 //! completed conversion is run again at its count and one below it. A longer
 //! run: `SUNDEWFRILL_CASES=20_000_000`; another one: `SUNDEWFRILL_SEED=7`.
-//! Progress is shown every few seconds. The calendar is gone through day by day.
+//! Progress is shown every few seconds. The calendar is gone through day by day, and
+//! each date must follow the one before.
 
 mod common;
 
 use std::fmt::{Debug, Display};
 
 use common::buffers::Buffers;
+use common::calendar::{self, Date};
 use common::calls::{CeilingCall, ConvertCall, DateCall, PAPER, PROVED};
 use common::cases::cases;
 use common::generator;
@@ -199,16 +201,21 @@ fn algebra() {
     coverage.require_of_algebra();
 }
 
-/// Every day of the calendar, printed in either form, and read again.
+/// Every day of the calendar, printed in either form, and read again. Each date must
+/// follow the one before.
 #[test]
 fn calendar() {
     const DAYS_AT_ONCE: usize = 2_000;
     let days: Vec<i64> = laws::DAYS.collect();
     let mut both = Both::default();
     let mut progress = Progress::new("calendar", days.len() as u64);
+    let mut date = calendar::FIRST;
     for (chunk, number) in days.chunks(DAYS_AT_ONCE).zip(0..) {
-        printed(&mut both, chunk, b"D");
+        let named = printed(&mut both, chunk, b"D");
         let answer = printed(&mut both, chunk, b"D4/");
+        let after_named = follow(&named, None, date);
+        date = follow(&answer, Some('/'), date);
+        assert_eq!(after_named, date, "as many dates in either form");
         let dates = answer.split(|&byte| byte == paper::VALUE_MARK);
         for (text, &day) in dates.zip(chunk) {
             let call = DateCall {
@@ -221,7 +228,20 @@ fn calendar() {
         }
         progress.step(number * DAYS_AT_ONCE as u64);
     }
+    assert_eq!(date, calendar::LAST.next(), "the date behind the last");
     progress.finish("every day there and back");
+}
+
+/// Fails unless the printed dates are this one and those that follow it, in order. Gives
+/// the one that must follow them.
+fn follow(printed: &[u8], separator: Option<char>, mut date: Date) -> Date {
+    for text in printed.split(|&byte| byte == paper::VALUE_MARK) {
+        let expected = date.printed(separator);
+        let right = text == expected.as_bytes();
+        assert!(right, "{} where {expected} is next", text.escape_ascii());
+        date = date.next();
+    }
+    date
 }
 
 /// The dates of these days, the same on both sides.

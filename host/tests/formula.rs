@@ -18,7 +18,7 @@ const CASES: u64 = 500;
 #[test]
 fn vectors() {
     let rows = vectors::formulas("the program", |input| FORMULA.written(input));
-    assert_eq!(rows, 886);
+    assert_eq!(rows, 913);
 }
 
 #[test]

@@ -71,3 +71,9 @@ fn algebra() {
 fn left_over() {
     vectors::run("L5.tsv", &PAPER);
 }
+
+/// All calls, with the days before a month by formula; many at the ends of months.
+#[test]
+fn months() {
+    vectors::run("L6.tsv", &PAPER);
+}

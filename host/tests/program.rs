@@ -20,7 +20,7 @@ const CASES: u64 = 1_000;
 #[test]
 fn vectors() {
     let rows = vectors::programs("the program", |input| CONSOLE.written(input));
-    assert_eq!(rows, 1_927);
+    assert_eq!(rows, 1_973);
 }
 
 #[test]

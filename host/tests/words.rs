@@ -19,11 +19,11 @@ const CASES: u64 = 500;
 #[test]
 fn vectors() {
     for (call, expected) in [
-        ("find", 319),
-        ("replace", 169),
-        ("check", 658),
-        ("date", 321),
-        ("ceilingof", 75),
+        ("find", 323),
+        ("replace", 172),
+        ("check", 664),
+        ("date", 414),
+        ("ceilingof", 78),
     ] {
         let rows = vectors::words(call, "the program", |input| WORDS.compared(input));
         assert_eq!(rows, expected, "rows of {call}");

@@ -1,7 +1,8 @@
-//! Document 01 with requests L1 to L5 of document 02, the P code, the rounding of
+//! Document 01 with requests L1 to L6 of document 02, the P code, the rounding of
 //! halves, blanks round numbers, the A code and the one entry that an F code ends
 //! with, written down once more, from these two, the two standards and the readings
-//! of `docs/DECISIONS.md` alone.
+//! of `docs/DECISIONS.md` alone. L6, the days before a month by formula, changes no
+//! answer: here they are added up from the lengths of the months.
 //!
 //! Nothing here comes from the proved library or knows how it works: the two
 //! are compared on all they give, every byte of output and scratch included.

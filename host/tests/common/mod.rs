@@ -2,6 +2,7 @@
 #![allow(dead_code)]
 
 pub mod buffers;
+pub mod calendar;
 pub mod calls;
 pub mod cases;
 pub mod coverage;

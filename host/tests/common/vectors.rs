@@ -25,7 +25,7 @@ struct File {
 }
 
 /// All stored files.
-const FILES: [File; 12] = [
+const FILES: [File; 13] = [
     file("find.tsv", Some("find"), 1_500),
     file("replace.tsv", Some("replace"), 1_500),
     file("check.tsv", Some("check"), 2_500),
@@ -38,6 +38,7 @@ const FILES: [File; 12] = [
     file("L3.tsv", None, 1_186),
     file("L4.tsv", None, 1_359),
     file("L5.tsv", None, 1_022),
+    file("L6.tsv", None, 1_064),
 ];
 
 const fn file(name: &'static str, call: Option<&'static str>, rows: usize) -> File {

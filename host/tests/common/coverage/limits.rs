@@ -15,6 +15,7 @@ use super::super::numbers::bare_value;
 use super::blanks::{ADDRESS_BLANKS, BLANKS, FORMS, RELATIONS, TYPED_BLANKS};
 use super::entries::ENTRIES;
 use super::masks::{NEGATIVE_HALF, POSITIVE_HALF, SCALED};
+use super::months::{printed_edges, typed_edges};
 use super::patterns::{PASSES, PATTERN_STRINGS};
 use super::steps::{deepest, STEPS};
 use super::Coverage;
@@ -45,7 +46,7 @@ impl Coverage {
         let ends = [NUMBER_ENDS, RESULT_ENDS, DAY_ENDS].concat();
         let given = [PASSES.as_slice(), &POSITIVE_HALF, &NEGATIVE_HALF, &SCALED].concat();
         let blanks = [FORMS.concat().as_slice(), &RELATIONS, &BLANKS].concat();
-        let tags: [&[&str]; 7] = [
+        let tags: [&[&str]; 8] = [
             &steps,
             &PLACES,
             &strings(),
@@ -53,6 +54,7 @@ impl Coverage {
             &ends,
             &given,
             &blanks,
+            &printed_edges(),
         ];
         self.require("convert", &refusals, &tags);
     }
@@ -66,7 +68,8 @@ impl Coverage {
 
     /// Fails unless reading typed dates has reached everything.
     pub fn require_of_date(&self) {
-        self.require("date", &[5, 6, 12], &[&DATES, &TYPED_BLANKS]);
+        let tags: [&[&str]; 3] = [&DATES, &TYPED_BLANKS, &typed_edges()];
+        self.require("date", &[5, 6, 12], &tags);
     }
 
     /// Notes what the program writes.
@@ -198,6 +201,7 @@ impl Coverage {
         self.code_string(&call.code, refusal);
         self.buffers(call, outcome);
         let part = &call.record[found.start as usize..][..found.length as usize];
+        self.printed_edges(&call.code, part, refusal);
         if part.iter().all(|&byte| byte < LEAST_MARK) {
             self.element(&call.code, part, refusal);
             self.pattern_code(&call.code, part, refusal);
@@ -247,6 +251,7 @@ impl Coverage {
             pattern_code && paper::check(&call.code).refusal == 0
         });
         self.typed_blanks(call, refusal);
+        self.typed_edge(call, outcome);
         let (front, year) = call.text.split_at(before_digits(&call.text));
         self.tag_if(accepted && year.len() == 2, "year of 2 digits");
         self.tag_if(accepted && year.len() == 4, "year of 4 digits");

@@ -1,13 +1,14 @@
 //! What generated calls have reached: every refusal, every code letter, every
 //! elm, every mask option, every kind of test, every limit on both sides, the
 //! halves at which masks round, blanks wherever a number is read, every operator
-//! and operand of an A code, and the entries that F codes leave.
+//! and operand of an A code, the entries that F codes leave, and the edges of months.
 
 mod algebra;
 mod blanks;
 mod entries;
 mod limits;
 mod masks;
+mod months;
 mod patterns;
 mod steps;
 mod values;

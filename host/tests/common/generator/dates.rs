@@ -1,5 +1,6 @@
 //! Typed dates: in the form of their code, or nearly.
 
+use super::super::calendar::Date;
 use super::super::calls::DateCall;
 use super::{blanks, codes, elements, Rng};
 
@@ -45,6 +46,7 @@ fn text(rng: &mut Rng, separator: Option<u8>) -> String {
     let (day, month, year) = match rng.below(80) {
         0 => return String::new(),
         1 | 2 => at_an_end(rng),
+        3..=12 => at_an_edge(rng),
         _ => anywhere(rng),
     };
     let day = digits(rng, day);
@@ -87,6 +89,34 @@ fn at_an_end(rng: &mut Rng) -> (u64, u64, String) {
     ];
     let (day, month, year) = *rng.pick(&ENDS);
     (day, month, year.to_owned())
+}
+
+/// The first or the last day of a month, or the day after the last.
+fn at_an_edge(rng: &mut Rng) -> (u64, u64, String) {
+    let first = first_of_month(rng);
+    let last = first.month_length();
+    let day = *rng.pick(&[1, last, last + 1]);
+    let year = match first.year {
+        year @ 1_930..=2_029 if rng.one_in(2) => format!("{:02}", year % 100),
+        year => format!("{year:04}"),
+    };
+    (day, first.month - 1, year)
+}
+
+/// The first date of any month, about as often of a leap year as of a common one.
+pub fn first_of_month(rng: &mut Rng) -> Date {
+    let year = match rng.below(8) {
+        0 | 1 => rng.between(1_930, 2_029),
+        2 => 100 * rng.between(1, 99),
+        3..=5 => 4 * rng.between(1, 2_499),
+        _ => rng.between(1, 9_999),
+    };
+    let month = rng.between(1, 12);
+    Date {
+        year,
+        month,
+        day: 1,
+    }
 }
 
 /// One or two digits.

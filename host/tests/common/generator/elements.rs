@@ -1,6 +1,7 @@
 //! Elements: what stands between the marks.
 
-use super::{blanks, Rng};
+use super::super::calendar::Date;
+use super::{blanks, dates, Rng};
 
 /// What an element is good for.
 #[derive(Clone, Debug, PartialEq, Eq)]
@@ -160,10 +161,18 @@ pub fn day(rng: &mut Rng) -> Vec<u8> {
         0 => *rng.pick(&NEAR),
         1 | 2 => rng.below(3_652_059) as i64 - 718_430,
         3 => rng.below(8_000_000) as i64 - 4_000_000,
+        4 | 5 => at_an_edge(rng),
         _ => rng.below(40_000) as i64 - 10_000,
     };
     let sign = if day >= 0 && rng.one_in(8) { "+" } else { "" };
     format!("{sign}{day}").into_bytes()
+}
+
+/// The first or the last day of a month.
+fn at_an_edge(rng: &mut Rng) -> i64 {
+    let first = dates::first_of_month(rng);
+    let day = *rng.pick(&[1, first.month_length()]);
+    Date { day, ..first }.number()
 }
 
 /// Hex digits, sometimes with a mistake, sometimes for a mark.
