@@ -17,8 +17,9 @@ export const FILES = {
     'L3.tsv': { check: 26, convert: 1007, ceilingof: 16, date: 25, find: 28, replace: 33, program: 51 },
     'L4.tsv': { check: 27, convert: 326, ceilingof: 16, date: 24, find: 28, replace: 31, program: 49, acode: 858 },
     'L5.tsv': { check: 351, convert: 347, ceilingof: 101, date: 18, find: 21, replace: 33, program: 123, acode: 28 },
+    'L6.tsv': { check: 29, convert: 430, ceilingof: 16, date: 462, find: 21, replace: 33, program: 46, acode: 27 },
 };
-export const ROWS = 26597;
+export const ROWS = 27661;
 
 const CHUNK = 1 << 20;
 const SHOWN = 5;
