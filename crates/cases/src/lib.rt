@@ -1,6 +1,7 @@
 // What the program over tables of cases reads and draws by: the fields of a case and the bytes that they spell, and a text with its marks drawn.
 // A table has a case to a line, its fields parted by a byte; long elements and marks may be spelled in braces, so that a table is plain text.
 // Every contract is an equality with a definition of specs/Tables.antt.
+#![tactic(auto)]
 pub mod lines;
 
 ghost use Rattle.std.specs.Prelude.{◌≡◌, ◌++◌, map, true, ◌+◌, ◌≤◌, ◌<◌, min, length, drop, get_or, replicate, ltb};

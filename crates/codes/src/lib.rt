@@ -1,6 +1,7 @@
 // Document 01, "The code grammar", and document 02, L1, as values: a code other than F, and an elm whose conversion case carries such a code.
 // Every case has its meaning in specs/Meaning.antt, the paper's own code or elm; contracts above speak through that.
 // A literal is a place in the code string and not a copy, and so are the patterns of a P code.
+#![tactic(auto)]
 
 // `=` `#` `>` `<` `]` `[`
 #[derive(Drop)]

@@ -1,6 +1,7 @@
 // Converting (document 01, "What each code gives" and "Steps"): the refusals in order, the walk over the elements, the buffers in the end.
 // `convert` takes any record, code string, address, budget and buffers; it is the definition of crates/paper, byte for byte.
 // `ceiling` works out beforehand the most steps that a conversion can take.
+#![tactic(auto)]
 ghost use Rattle.std.specs.Prelude.{◌≡◌, ◌≤◌, length};
 ghost use Rattle.paper.specs.Sizes.{scratch_least};
 ghost use Rattle.paper.specs.Refusals.{given};

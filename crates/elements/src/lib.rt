@@ -1,6 +1,7 @@
 // The elements of an address (document 01, "What each code gives" and "Steps"): each through all codes, the marks between them kept.
 // They are walked once from left to right, and each answer goes straight to the lent output.
 // Only `convert` calls this: it lends an accepted string, the bytes that a lawful address reads, and what the machine asks.
+#![tactic(auto)]
 ghost use Rattle.std.specs.Prelude.{◌≡◌, ◌+◌, ◌^◌, ◌≤◌, ◌<◌, length};
 ghost use Rattle.paper.specs.Sizes.{record_most, position_most};
 ghost use Rattle.stack.specs.Slots.{Lent};

@@ -1,6 +1,7 @@
 // Document 02, L4, at the console: an A code on line 1; out come the refusal, 0 for none, and the F text that the A code stands for.
 // `answer` goes from the bytes read to the bytes written, and is `formula` of specs/ on every input.
 // `main` only reads and writes; what the system hands over is not part of any statement.
+#![tactic(auto)]
 ghost use Rattle.std.specs.Prelude.{◌≡◌, ◌≤◌, length};
 ghost use Rattle.paper.specs.Sizes.{number_most, code_most};
 ghost use Rattle.lent.specs.Over.{over};

@@ -1,6 +1,7 @@
 // Document 01, "The code grammar" and "Steps" (A and B), and document 02, L1 (P and T) and L5 (18): checking a code string, code by code, and the
 // steps that it counts.
 // Every contract is an equality with a definition that proofs/ tie to crates/paper.
+#![tactic(auto)]
 mod strings;
 mod tallies;
 

@@ -1,6 +1,7 @@
 // The machine: the elms of one code, one code, one element through all codes, each step counted within the budget (document 01, "Steps").
 // A run answers the steps then counted, or its refusal and the steps counted before it; its answer stands in the element's slot.
 // Every statement is an equality with the run that crates/paper defines.
+#![tactic(auto)]
 pub mod running;
 
 use codes::Conversion;

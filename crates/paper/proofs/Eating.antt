@@ -184,7 +184,8 @@ module _ {A : Type 0} (c : ℕ) (r : Reader A) {closes : Bytes} (eats : Eats clo
   parts_read zero (next e ps) l = absurd (omega (arith, eats_a_byte eats starts e))
   parts_read (suc fuel) (last {rest = []} e m) l = rw e
   parts_read (suc fuel) (last {rest = b ∷ rest} e m) l = rw (e, m)
-  parts_read (suc fuel) (next e ps) l = rw (e, eq-eqb c c refl, parts_read fuel ps (omega (arith, eats_a_byte eats starts e)))
+  parts_read {bs = bs} (suc fuel) (next {more = more} e ps) l =
+      rw (e, eq-eqb c c refl, parts_read {bs = more} fuel ps (omega (arith, eats_a_byte eats starts e)))
 
   pub enough : (fuel : ℕ) (bs : Bytes) {y : List A × Bytes} → parted fuel c r bs ≡ some y → parted (length bs) c r bs ≡ some y
   unfolding parted
@@ -275,7 +276,7 @@ elms_eats = eats_all (ch ";") elm (eats_fewer elm_eats) refl (and_all refl none_
 
 pub code_eats : Eats (ch ")" ∷ []) code
 unfolding code function_code this conversion choose
-code_eats = eats_ahead (inr refl) (λ _. search (eating, elms_eats) depth 20) (eats_then conversion_eats (λ c. eats_gives))
+code_eats = eats_ahead {p = eqb (ch "F")} {k = λ _. function_code} (inr refl) (λ _. search (eating, elms_eats) depth 20) (eats_then conversion_eats (λ c. eats_gives))
 
 -- an elm read whole is read so in front of `;` and `)`
 pub elm_before : (bs : Bytes) {e : Elm} {rest : Bytes} → elm bs ≡ some (e, []) → Follows closing [] rest → elm (bs ++ rest) ≡ some (e, rest)

@@ -226,6 +226,7 @@ unfolding path
 diverge_reads old x same (turn {n = a} stop) d = same a 0 0 (diverge_apart d)
 diverge_reads old x same (turn {n = a} (turn {n = v} stop)) d = same a (suc v) 0 (diverge_apart d)
 diverge_reads old x same (turn {n = a} (turn {n = v} (turn {n = s} stop))) d = same a (suc v) (suc s) (diverge_apart d)
+diverge_reads old x {ts = ts} same stop d = elim d [ ]
 
 -- What replacing gives is made so: marks are added so that the place is there, with what it read before, and then it is set.
 

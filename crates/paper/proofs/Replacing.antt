@@ -138,6 +138,7 @@ seen_replaced (turn {m = m} {n = n} d) (rung f g l) (below {us = us} h) old =
     ap (λ ps. seen us (get_or ps n [])) (split_replaced m f g d n old)
     ∙ ap (λ bs. seen us bs) (getD_alter n _ (split m old))
     ∙ seen_replaced d l h (get_or (split m old) n [])
+seen_replaced {new = new} {us = us} (stop {ms = ms}) _ d old = elim d [ ]
 
 -- The marks of an address.
 

@@ -8,7 +8,8 @@ use mathlib.Core.List.{List, [], ◌∷◌}
 use mathlib.Core.Option.{Option, none, some}
 use lib.Dec.{eqb}
 use lib.ListN.{length}
-use Rattle.paper.specs.Bytes.{Bytes, if◌then◌else◌, ch, is_digit}
+use Rattle.paper.specs.Bytes.{Bytes, if◌then◌else◌, ch, is_digit, digit_value}
+use Rattle.paper.specs.Numbers.{Binary, Relation}
 use Rattle.paper.specs.Codes.{Test, Pattern, Plain, Conversion, Elm, Kind}
 use Rattle.paper.specs.Grammar.{Reader, follow, gives, ahead, this, choose, more_digits, quoted, class_letter, count_test, literal_test, test, tests}
 use Rattle.paper.specs.Grammar.{pattern, pattern_list, pattern_code, parted, closed_by, as_plain, group_code, extract_code, length_code, character_code}
@@ -140,7 +141,7 @@ masking_one =
 
 date_one : (n : ℕ) (bs : Bytes) → Reads One (date_after n bs)
 unfolding date_after conversion_kind
-date_one n = reads_ahead is_separator (λ s bs. reads refl) (λ bs. reads refl)
+date_one n = reads_ahead is_separator (λ s bs. reads {r = (Conversion.date n (some s), bs)} refl) (λ bs. reads {r = (Conversion.date n none, bs)} refl)
 
 dates_one : (bs : Bytes) → Reads One (date_code bs)
 unfolding date_code
@@ -188,11 +189,15 @@ previous_single bs = reads_after (this (ch "P") bs) (λ _ bs. reads_after (this 
 
 multiply_single : (bs : Bytes) → Reads Single (multiply_elm bs)
 unfolding multiply_elm shape
-multiply_single = reads_ahead is_digit (λ b bs. reads refl) (λ bs. reads refl)
+multiply_single =
+    reads_ahead is_digit (λ b bs. reads {r = (Elm.binary (Binary.multiply (digit_value b)), bs)} refl)
+    (λ bs. reads {r = (Elm.binary (Binary.multiply 0), bs)} refl)
 
 bracket_single : (bs : Bytes) → Reads Single (bracket_elm bs)
 unfolding bracket_elm shape
-bracket_single = reads_ahead _ (λ b bs. reads refl) (λ bs. reads refl)
+bracket_single =
+    reads_ahead (eqb (ch "]")) (λ b bs. reads {r = (Elm.substring, bs)} refl)
+    (λ bs. reads {r = (Elm.binary (Binary.relate Relation.at_most), bs)} refl)
 
 converting_weighed : (bs : Bytes) → Told (Weighed (λ e. (shape e).kind) (suc (length bs))) (converting_elm bs)
 unfolding converting_elm shape this

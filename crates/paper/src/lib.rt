@@ -1,6 +1,7 @@
 // Document 01 as definitions (specs/), the laws that speak of the definitions alone (proofs/),
 // and, in code, the mark bytes and size limits that every crate above shares.
 // What document 01's calls answer is stated by specs/; the specs/ of the other crates only turn it into the forms that their code has.
+#![tactic(auto)]
 ghost use Rattle.std.specs.Prelude.{◌≡◌};
 ghost use Rattle.paper.specs.Program.{drawn};
 
@@ -31,6 +32,7 @@ impl Mark {
     pub const BUFFER: Mark = Mark { byte: 251 };
 
     // "drawn `^` for 254, `]` for 253 and `\` for 252"; any other byte as it is
+    #[tactic(auto, unfolding(crate::specs::Program::drawn))]
     pub fn drawn(byte: u8) -> u8
         ensures { result ≡ drawn byte }
     {

@@ -3,6 +3,7 @@
 // `c` checking: code; `f` finding: address, record; `r` replacing: address, record, new element; `d` a typed date: code, text; `b`, or any other letter, the
 // ceiling: address, record, code. A line ends at byte 10, missing lines are empty, and 65,536 bytes are read, as by document 01's program.
 // That the answers are right is proved of the crates below; this shows them, is proved safe and ending, and is held to a stored text and to the vectors.
+#![tactic(auto)]
 mod placed;
 mod showing;
 mod titles;

@@ -2,6 +2,7 @@
 // A heading, `@ ` and a table's name, begins each table; the head of src/NAME.rt says what that table's cases are. A line with no bar says what the cases
 // after it try, but in `checks`, where each line is a case. Every line is written as it stands, and behind a case what came of it.
 // That the answers are right is proved of the crates below; this shows them, and what it writes is compared with a stored text.
+#![tactic(auto)]
 mod checks;
 mod days;
 mod places;
