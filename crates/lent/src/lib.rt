@@ -3,6 +3,7 @@
 // A scan is stated by a test of the bytes; a writer by one list, `over`: the buffer with some bytes laid over it, every other as it was.
 // Only crates of ours call these; each asks that the bytes it goes over lie within the buffer.
 #![tactic(auto)]
+
 ghost use Rattle.std.specs.Prelude.{◌≡◌, ◌+◌, ◌≤◌, length, take, drop, replicate};
 ghost use Rattle.paper.specs.Bytes.{any, within};
 ghost use Rattle.paper.specs.Sizes.{is_mark};
