@@ -1,0 +1,13 @@
+use Prim.Native.Nat.{◌-◌, ◌≤◌}
+use mathlib.Core.Path.{◌≡◌, refl, ◌∙◌}
+use native.Mathlib.Omega.{arith}
+use Rattle.lent.specs.Scan.{first_place}
+use Rattle.lent.proofs.Scans.{upto_hit, upto_more, upto_none}
+use Rattle.lent.proofs.first_within.Given as goal
+
+abbrev pub invariant-loop-at : goal.invariant-loop-at
+invariant-loop-at l =
+    (l.from ≤ l.at) × (l.at ≤ l.to) × (first_place l.low l.high l.text l.from l.to ≡ first_place l.low l.high l.text l.at l.to)
+
+abbrev pub decreases-loop-at : goal.decreases-loop-at
+decreases-loop-at l = l.to - l.at
