@@ -384,8 +384,46 @@ def turn_file(folder, crate, path, names, labels):
             # a long body keeps its lines
             invariants.append("\n".join(b.notes + [f"abbrev pub {new} : goal.{new}"] + ([b.unfolding] if b.unfolding else []) + [f"{new} l =\n    " + body if "\n" in body or len(body) > 120 else f"{new} l = {body}"]))
     answers = []
-    helpers_used = []
     given = {}
+    lemmas = {}
+    for b in blocks:
+        m = b.name and re.match(
+            r"(?:abbrev )?%s : \(([\w']+) : tie\.([\w-]+)(?: (?:invariant|decreases)-loop)*\)\s*→\s*" % re.escape(b.name), b.sig
+        )
+        n = m and re.match(re.escape(b.name) + " " + re.escape(m[1]) + r" =\s*", b.body)
+        if m and n and "→" not in re.sub(r"\([^()]*→[^()]*\)", "", b.sig[m.end() :]) and b.body.count("\n" + b.name + " ") == 0:
+            lemmas[b.name] = (m[1], m[2], b.sig[m.end() :], b.body[n.end() :], b.unfolding)
+
+    def with_lemmas(body, c, place, unfolding):
+        """A body in which the lemmas about its context stand as lets, since a step has one name at every place below it."""
+        needed = []
+
+        def visit(text):
+            def use(m):
+                if m[1] not in needed:
+                    var, at, kind, proof, opened = lemmas[m[1]]
+                    kind, proof = visit(kind), visit(proof)
+                    needed.append(m[1])
+                    lets[m[1]] = (var, at, kind, proof, opened)
+                return m[1]
+
+            names = "|".join(map(re.escape, lemmas))
+            return re.sub(r"(?<![\w'.-])(%s)\s+[\w']+(?:\.before)*(?![\w'.-])" % names, use, text) if lemmas else text
+
+        lets = {}
+        body = f.turn(visit(body), {c: place})
+        head, opened_names = "", (unfolding or "").replace("unfolding", "").split()
+        for name in needed:
+            var, at, kind, proof, opened = lets[name]
+            if norm(at) not in f.index:
+                raise No(f"a place {at}")
+            it = {var: f.index[norm(at)]}
+            kind, proof = f.turn(kind, it), f.turn(proof, it)
+            if var != c:
+                kind, proof = (re.sub(r"(?<![\w'.])%s(?=\.)" % re.escape(var), c, t) for t in (kind, proof))
+            head += f"let {name} : {' '.join(kind.split())} = {proof.strip()} in\n    "
+            opened_names += [w for w in (opened or "").replace("unfolding", "").split() if w not in opened_names]
+        return head + body, "unfolding " + " ".join(opened_names) if opened_names else None
     for (old, new), (old_place, new_place), arg in zip(f.needs, f.asked_at, args[2 * n_loops :]):
         place = f.index[norm(old_place)]
         binders, body = lambda_of(arg)
@@ -411,7 +449,7 @@ def turn_file(folder, crate, path, names, labels):
             # given as a function
             binders, body = ["c"], "(" + body + ") c"
         c = binders[0]
-        body = f.turn(body, {c: place})
+        body, unfolding = with_lemmas(body, c, place, unfolding)
         if len(binders) > 1 and re.search(r"(?<![\w'.])%s(?![\w'])" % re.escape(binders[1]), body):
             f.notes.append(f"{new} names {binders[1]}")
         if old in f.asked and len(f.asked[old]) > 1:
@@ -425,7 +463,7 @@ def turn_file(folder, crate, path, names, labels):
         answers.append("\n".join(note + [f"pub {new} : goal.{new}"] + ([unfolding] if unfolding else []) + [head + "\n    " + body if "\n" in body or len(body) > 120 else head + " " + body]))
     own = []
     for b in blocks:
-        if b.name in done:
+        if b.name in done or b.name in lemmas:
             continue
         text = "\n".join(b.lines)
         contexts = {}

@@ -2,6 +2,7 @@
 // Readers look one byte ahead and commit; each answers what it read with the place after it, or that it is not in the grammar.
 // Every contract is an equality with a definition that proofs/ tie to crates/paper.
 #![tactic(auto)]
+
 pub mod conversions;
 mod masking;
 pub mod patterns;
