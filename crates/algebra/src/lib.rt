@@ -21,14 +21,14 @@ use readers::places::peek;
 const TEXT: usize = 3 * Limit::CODE.most;
 
 // What a reader answers: the place after what it read and the bytes of the F text so far, or that it is not in the grammar.
-#[derive(Drop)]
+#[derive(Clone, Copy)]
 pub(crate) enum Shown {
     Upto { next: usize, len: usize },
     Unread,
 }
 
 // An operator's byte in F and the place after it, or that none stands there.
-#[derive(Drop)]
+#[derive(Clone, Copy)]
 pub(crate) enum ReadOperator {
     Operator { byte: u8, next: usize },
     Missing,

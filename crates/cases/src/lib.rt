@@ -20,7 +20,7 @@ pub const SHOWN: usize = 64;
 const MOST: u64 = 18_446_744_073_709_551_615;
 
 // A byte so many times, and where the text goes on behind it.
-#[derive(Drop)]
+#[derive(Clone, Copy)]
 struct Piece {
     byte: u8,
     count: usize,

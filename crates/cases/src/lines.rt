@@ -10,7 +10,7 @@ use paper::Limit;
 // The longest buffer.
 const ROOM: u64 = Limit::RECORD.most as u64;
 
-#[derive(Drop)]
+#[derive(Clone, Copy)]
 pub struct Address {
     pub a: u64,
     pub v: u64,

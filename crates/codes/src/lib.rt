@@ -4,7 +4,7 @@
 #![tactic(auto)]
 
 // `=` `#` `>` `<` `]` `[`
-#[derive(Drop)]
+#[derive(Clone, Copy)]
 pub enum Relation {
     Equal,
     Unequal,
@@ -15,7 +15,7 @@ pub enum Relation {
 }
 
 // `*` and `*n` (`*` is `*0`), `/` `R` `+` `-`.
-#[derive(Drop)]
+#[derive(Clone, Copy)]
 pub enum Arithmetic {
     Multiply(u64),
     Divide,
@@ -25,7 +25,7 @@ pub enum Arithmetic {
 }
 
 // The elms that take two entries and put one.
-#[derive(Drop)]
+#[derive(Clone, Copy)]
 pub enum Operator {
     Arithmetic(Arithmetic),
     Concatenate,
@@ -33,7 +33,7 @@ pub enum Operator {
 }
 
 // "{C, D, E, M or N}", or none.
-#[derive(Drop)]
+#[derive(Clone, Copy)]
 pub enum Credit {
     Absent,
     Credit,
@@ -44,14 +44,14 @@ pub enum Credit {
 }
 
 // `(fill num)`: the byte that fills and the width, or no mask.
-#[derive(Drop)]
+#[derive(Clone, Copy)]
 pub enum Fill {
     Absent,
     Field { byte: u8, width: u64 },
 }
 
 // `ML` or `MR`, then `{n{m}}{Z}{,}{C, D, E, M or N}{$}{(fill num)}`.
-#[derive(Drop)]
+#[derive(Clone, Copy)]
 pub struct Mask {
     pub left: bool,
     pub decimals: u64,
@@ -64,7 +64,7 @@ pub struct Mask {
 }
 
 // G, T, L, MC, MX and MY.
-#[derive(Drop)]
+#[derive(Clone, Copy)]
 pub enum Plain {
     Group {
         skip: u64,
@@ -92,14 +92,14 @@ pub enum Plain {
 }
 
 // D's `{s}`.
-#[derive(Drop)]
+#[derive(Clone, Copy)]
 pub enum Separator {
     Absent,
     Byte(u8),
 }
 
 // `N`, `A` or `X`.
-#[derive(Drop)]
+#[derive(Clone, Copy)]
 pub enum Class {
     Numeric,
     Alpha,
@@ -107,14 +107,14 @@ pub enum Class {
 }
 
 // `nN`, `nA`, `nX`, or a quoted literal.
-#[derive(Drop)]
+#[derive(Clone, Copy)]
 pub enum Test {
     SoMany { count: u64, class: Class },
     Literal { start: usize, len: usize },
 }
 
 // A code other than F. Of a P code: where its patterns begin, and the tests in all of them.
-#[derive(Drop)]
+#[derive(Clone, Copy)]
 pub enum Conversion {
     Plain(Plain),
     Mask(Mask),
@@ -123,7 +123,7 @@ pub enum Conversion {
 }
 
 // An attribute's number is followed by nothing, `R` or `RR`.
-#[derive(Drop)]
+#[derive(Clone, Copy)]
 pub enum Repeat {
     Each,
     FirstValue,
@@ -131,14 +131,14 @@ pub enum Repeat {
 }
 
 // What an elm may push.
-#[derive(Drop)]
+#[derive(Clone, Copy)]
 pub enum Operand {
     Attribute { number: u64, repeat: Repeat },
     Literal { start: usize, len: usize },
     Previous,
 }
 
-#[derive(Drop)]
+#[derive(Clone, Copy)]
 pub enum Elm {
     Push(Operand),
     Binary(Operator),

@@ -21,7 +21,7 @@ use stack::slots;
 use steps::Position;
 
 // What converting comes to: the refusal or 0, the steps reported, the answer's length.
-#[derive(Drop)]
+#[derive(Clone, Copy)]
 pub struct Converted {
     pub number: u64,
     pub steps: u64,
@@ -155,7 +155,7 @@ pub fn convert<'a>(
 }
 
 // What the ceiling of a conversion comes to: the most steps that it can take, or the refusal before the run.
-#[derive(Drop)]
+#[derive(Clone, Copy)]
 pub enum Bound {
     Most(u64),
     Refused(u64),

@@ -11,7 +11,7 @@ ghost use Rattle.dates.specs.Dated.{ranged_refusal};
 ghost use Rattle.dates.specs.Scans.{read_refusal};
 
 // A date of the calendar.
-#[derive(Drop)]
+#[derive(Clone, Copy)]
 struct Date {
     year: u64,
     month: u64,
@@ -19,14 +19,14 @@ struct Date {
 }
 
 // What a typed date names: a day, by its sign and its size, or a refusal's number.
-#[derive(Drop)]
+#[derive(Clone, Copy)]
 pub enum TypedDay {
     Day { negative: bool, size: u64 },
     Refused(u64),
 }
 
 // A day of the calendar, counted from 1 January of year 1, or a refusal's number.
-#[derive(Drop)]
+#[derive(Clone, Copy)]
 enum Ranged {
     Day(u64),
     Refused(u64),
@@ -45,7 +45,7 @@ impl Ranged {
 }
 
 // What a reader finds at a place of a text: a number and the place after it, or a refusal's number.
-#[derive(Drop)]
+#[derive(Clone, Copy)]
 enum Read {
     Found { value: u64, next: usize },
     Refused(u64),

@@ -16,7 +16,7 @@ use stack::slots;
 use steps::Position;
 
 // What the walk over the elements comes to: the steps and the answer's length, or the refusal and the steps before it.
-#[derive(Drop)]
+#[derive(Clone, Copy)]
 pub enum Walked {
     Done { steps: u64, length: usize },
     Stopped { number: u64, steps: u64 },
@@ -72,7 +72,7 @@ fn stopped(ran: Ran) -> Walked
 }
 
 // Where the walk stands: its element's own position, the steps counted under the budget, and the length of the answer so far.
-#[derive(Drop)]
+#[derive(Clone, Copy)]
 struct Standing {
     place: Position,
     meter: Meter,

@@ -14,14 +14,14 @@ ghost use Rattle.grammar.specs.Addresses.{address_refusal};
 use codes::{Conversion, Elm, Repeat};
 
 // What follows an attribute's number, and the place after it.
-#[derive(Drop)]
+#[derive(Clone, Copy)]
 pub(crate) struct Repeats {
     pub repeat: Repeat,
     pub next: usize,
 }
 
 // What a reader answers: what it read, with the place after it, or the refusal's number, 6: "a code is not in the grammar".
-#[derive(Drop)]
+#[derive(Clone, Copy)]
 pub enum ReadElm {
     Elm { elm: Elm, next: usize },
     Refused(u64),
@@ -40,13 +40,13 @@ impl ReadElm {
 }
 
 // What one whole code begins with.
-#[derive(Drop)]
+#[derive(Clone, Copy)]
 pub enum Head {
     Function { first: usize },
     Single(Conversion),
 }
 
-#[derive(Drop)]
+#[derive(Clone, Copy)]
 pub enum ReadHead {
     Head(Head),
     Refused(u64),
@@ -65,7 +65,7 @@ impl ReadHead {
 }
 
 // A typed address, or the refusal's number, 4.
-#[derive(Drop)]
+#[derive(Clone, Copy)]
 pub enum ReadAddress {
     Address { a: u64, v: u64, s: u64 },
     Refused(u64),

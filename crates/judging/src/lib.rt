@@ -12,7 +12,7 @@ ghost use Rattle.judging.specs.Verdicts.{fault_in, verdict_of, report_in};
 use paper::Limit;
 
 // Steps by their kind: "A attribute loads and B other steps", P codes, which B does not count, and the tests in all of them.
-#[derive(Drop)]
+#[derive(Clone, Copy)]
 pub struct Counts {
     pub loads: u64,
     pub others: u64,
@@ -21,7 +21,7 @@ pub struct Counts {
 }
 
 // What a step is counted as: a load, a P code with its tests, or another.
-#[derive(Drop)]
+#[derive(Clone, Copy)]
 pub(crate) enum Kind {
     Loading,
     Testing(u64),
@@ -29,7 +29,7 @@ pub(crate) enum Kind {
 }
 
 // Entries that an elm takes and puts, and what its step is counted as.
-#[derive(Drop)]
+#[derive(Clone, Copy)]
 pub(crate) struct Shape {
     pub takes: u64,
     pub puts: u64,
@@ -37,14 +37,14 @@ pub(crate) struct Shape {
 }
 
 // Entries held after an elm, and whether it or an elm before it was a fault, refusal 7.
-#[derive(Drop)]
+#[derive(Clone, Copy)]
 pub(crate) struct Entries {
     pub held: u64,
     pub faulty: bool,
 }
 
 // The elms of an F code so far: the entries held, the faults met, the steps. 6 is decided on the whole code, and a fault only then.
-#[derive(Drop)]
+#[derive(Clone, Copy)]
 pub(crate) struct Tally {
     pub held: u64,
     pub faulty: bool,
@@ -52,7 +52,7 @@ pub(crate) struct Tally {
 }
 
 // One code: its steps, or its fault.
-#[derive(Drop)]
+#[derive(Clone, Copy)]
 pub(crate) enum Judged {
     Lawful(Counts),
     Faulty(u64),
@@ -71,7 +71,7 @@ impl Judged {
 }
 
 // A code string: A, B, P and T, or the refusal with the number of the first bad code.
-#[derive(Drop)]
+#[derive(Clone, Copy)]
 pub enum Verdict {
     Accepted(Counts),
     Refused { number: u64, code: u64 },

@@ -7,7 +7,7 @@ ghost use Rattle.masks.specs.Scaling.{scaling_of, scaling_refusal};
 use numbers::writing;
 
 // A scaled size, or the refusal's number.
-#[derive(Drop)]
+#[derive(Clone, Copy)]
 pub(crate) enum Scaling {
     Size(u64),
     Refused(u64),

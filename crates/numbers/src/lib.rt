@@ -19,7 +19,7 @@ use paper::Limit;
 pub const MOST: u64 = Limit::NUMBER.most as u64;
 
 // A whole number. Zero has no sign.
-#[derive(Drop)]
+#[derive(Clone, Copy)]
 pub struct Number {
     pub negative: bool,
     pub size: u64,
@@ -37,7 +37,7 @@ impl Number {
 }
 
 // What reckoning gives: a number, or the refusal's number.
-#[derive(Drop)]
+#[derive(Clone, Copy)]
 pub enum Reckoned {
     Number(Number),
     Refused(u64),
@@ -56,14 +56,14 @@ impl Reckoned {
 }
 
 // A string's numeric form: its value, 10 where that is out of range; or none.
-#[derive(Drop)]
+#[derive(Clone, Copy)]
 enum Form {
     Numeric(Reckoned),
     NotNumeric,
 }
 
 // How the second entry stands to the top.
-#[derive(Drop)]
+#[derive(Clone, Copy)]
 enum Order {
     Less,
     Same,
@@ -71,7 +71,7 @@ enum Order {
 }
 
 // What comparing gives: an order, or the refusal's number.
-#[derive(Drop)]
+#[derive(Clone, Copy)]
 enum Compared {
     Ordered(Order),
     Refused(u64),

@@ -15,7 +15,7 @@ const VALUE: u8 = Mark::VALUE.byte;
 const SUBVALUE: u8 = Mark::SUBVALUE.byte;
 
 // A mark: "Marks are bytes of our choosing by Pick custom". What walks by a mark takes one, so that a bare byte is not passed for it.
-#[derive(Drop)]
+#[derive(Clone, Copy)]
 pub struct Mark {
     pub byte: u8,
 }
@@ -46,7 +46,7 @@ impl Mark {
 }
 
 // A size limit: document 01, "Sizes".
-#[derive(Drop)]
+#[derive(Clone, Copy)]
 pub struct Limit {
     pub most: usize,
 }
@@ -80,7 +80,7 @@ impl Limit {
 }
 
 // What a call that gives bytes answers: how many, or the refusal's number.
-#[derive(Drop)]
+#[derive(Clone, Copy)]
 pub enum Given {
     Length(usize),
     Refused(u64),

@@ -12,7 +12,7 @@ use readers::patterns::test;
 use readers::places::peek;
 
 // Whether a pattern passed, and the place behind it.
-#[derive(Drop)]
+#[derive(Clone, Copy)]
 struct Tried {
     passed: bool,
     next: usize,

@@ -15,28 +15,28 @@ ghost use Rattle.readers.specs.Answers.{num_refusal, quoted_refusal, fill_refusa
 use codes::{Conversion, Credit, Fill, Test};
 
 // The byte at a place, and the place after it.
-#[derive(Drop)]
+#[derive(Clone, Copy)]
 pub struct Ahead {
     pub byte: u8,
     pub next: usize,
 }
 
 // Whether an optional byte stands there, and the place after it.
-#[derive(Drop)]
+#[derive(Clone, Copy)]
 pub(crate) struct Flag {
     pub on: bool,
     pub next: usize,
 }
 
 // A number's value, and the place after its digits.
-#[derive(Drop)]
+#[derive(Clone, Copy)]
 pub(crate) struct Digits {
     pub value: u64,
     pub next: usize,
 }
 
 // `{n{m}}`, and the place after it.
-#[derive(Drop)]
+#[derive(Clone, Copy)]
 pub(crate) struct Scales {
     pub decimals: u64,
     pub scale: u64,
@@ -44,14 +44,14 @@ pub(crate) struct Scales {
 }
 
 // "{C, D, E, M or N}" or none, and the place after it.
-#[derive(Drop)]
+#[derive(Clone, Copy)]
 pub(crate) struct Credits {
     pub credit: Credit,
     pub next: usize,
 }
 
 // What a reader answers: what it read, with the place after it, or the refusal's number, 6: "a code is not in the grammar".
-#[derive(Drop)]
+#[derive(Clone, Copy)]
 pub enum ReadNum {
     Num { value: u64, next: usize },
     Refused(u64),
@@ -70,7 +70,7 @@ impl ReadNum {
 }
 
 // How many bytes stand before the closing quote, and the place after it.
-#[derive(Drop)]
+#[derive(Clone, Copy)]
 pub enum ReadQuoted {
     Quoted { len: usize, next: usize },
     Refused(u64),
@@ -88,7 +88,7 @@ impl ReadQuoted {
     }
 }
 
-#[derive(Drop)]
+#[derive(Clone, Copy)]
 pub(crate) enum ReadFill {
     Fill { fill: Fill, next: usize },
     Refused(u64),
@@ -106,7 +106,7 @@ impl ReadFill {
     }
 }
 
-#[derive(Drop)]
+#[derive(Clone, Copy)]
 pub enum ReadTest {
     Test { test: Test, next: usize },
     Refused(u64),
@@ -124,7 +124,7 @@ impl ReadTest {
     }
 }
 
-#[derive(Drop)]
+#[derive(Clone, Copy)]
 pub enum ReadConversion {
     Conversion { conversion: Conversion, next: usize },
     Refused(u64),

@@ -19,7 +19,7 @@ use lent::{BLOCK, far_within, first_within, some_within};
 use paper::{Given, Limit, Mark, refusal};
 
 // "The answer of finding is "found" or "missing"", or a refusal.
-#[derive(Drop)]
+#[derive(Clone, Copy)]
 pub enum Found {
     At { start: usize, len: usize },
     Missing,
@@ -27,14 +27,14 @@ pub enum Found {
 }
 
 // Where a scan for marks stopped, and how many it had still to pass.
-#[derive(Drop)]
+#[derive(Clone, Copy)]
 struct Stop {
     at: usize,
     left: u64,
 }
 
 // The place of an address: its part, or, missing, where it is to be made and by how many marks of each kind.
-#[derive(Drop)]
+#[derive(Clone, Copy)]
 struct Spot {
     start: usize,
     end: usize,
@@ -44,7 +44,7 @@ struct Spot {
 }
 
 // What a replacement is to do: write at a spot, with so many bytes in all, or refuse.
-#[derive(Drop)]
+#[derive(Clone, Copy)]
 enum Plan {
     Ready { spot: Spot, total: usize },
     Refused(u64),

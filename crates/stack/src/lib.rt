@@ -8,7 +8,7 @@ ghost use Rattle.std.specs.Prelude.{◌≡◌};
 ghost use Rattle.stack.specs.Charging.{charge_refusal, step_refusal};
 
 // What a step costs, or 15 where that is over what is left of the budget.
-#[derive(Drop)]
+#[derive(Clone, Copy)]
 pub enum Charge {
     Cost(u64),
     Refused(u64),
@@ -27,7 +27,7 @@ impl Charge {
 }
 
 // One step: its cost and the entries then held, or its refusal.
-#[derive(Drop)]
+#[derive(Clone, Copy)]
 pub enum Step {
     Done { cost: u64, held: usize },
     Refused(u64),

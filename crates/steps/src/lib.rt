@@ -5,7 +5,7 @@ mod loading;
 pub mod stepping;
 
 // The position of an element in its attribute: the value and the subvalue that a load in step with it reads.
-#[derive(Drop)]
+#[derive(Clone, Copy)]
 pub struct Position {
     pub v: u64,
     pub s: u64,

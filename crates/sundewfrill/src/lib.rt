@@ -31,7 +31,7 @@ use paper::Given;
 use records::Found;
 
 // What finding gives, in numbers.
-#[derive(Drop)]
+#[derive(Clone, Copy)]
 struct Finding {
     number: u64,
     found: u64,
@@ -40,14 +40,14 @@ struct Finding {
 }
 
 // What replacing gives, and showing an A code, in numbers.
-#[derive(Drop)]
+#[derive(Clone, Copy)]
 struct Replacing {
     number: u64,
     length: u64,
 }
 
 // What checking gives, in numbers.
-#[derive(Drop)]
+#[derive(Clone, Copy)]
 struct Checking {
     number: u64,
     code: u64,
@@ -58,14 +58,14 @@ struct Checking {
 }
 
 // What the ceiling gives, in numbers.
-#[derive(Drop)]
+#[derive(Clone, Copy)]
 struct Capping {
     number: u64,
     ceiling: u64,
 }
 
 // What a typed date gives, in numbers.
-#[derive(Drop)]
+#[derive(Clone, Copy)]
 struct Dating {
     number: u64,
     negative: u64,

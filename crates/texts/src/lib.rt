@@ -19,7 +19,7 @@ pub mod letter;
 mod part;
 
 // What MCA, MC/A, MCN and MC/N keep (001, 4.8).
-#[derive(Drop)]
+#[derive(Clone, Copy)]
 pub enum Class {
     Letters,
     OtherThanLetters,
@@ -28,7 +28,7 @@ pub enum Class {
 }
 
 // How MCU, MCL and MCT write letters (001, 4.8).
-#[derive(Drop)]
+#[derive(Clone, Copy)]
 pub enum Casing {
     Upper,
     Lower,
