@@ -2,6 +2,7 @@
 // Every contract is an equality with a definition of crates/paper/specs/Numbers.antt, for all inputs that it takes.
 // A number is a sign and a size of at most 15 digits: no sum wraps, and a product out of range is never made.
 #![tactic(auto)]
+
 mod comparing;
 pub mod entries;
 pub mod reading;

@@ -51,17 +51,17 @@ module _ (most : ℕ) where
 
 -- what a call answers, and the buffer before and after it
 abbrev pub Answered : Res Bytes → Bytes → Bytes → Given → Type 0
-Answered r held out answer = (answer ≡ given_of r) × (out ≡ written held r)
+Answered r held out answer = record { value : answer ≡ given_of r; out_after : out ≡ written held r }
 
 -- a refusal leaves the buffer as it was; else the bytes stand in front of what it held
 module _ {r : Res Bytes} where
   pub refuses_with : {held : Bytes} {n : ℕ} → r ≡ refused n → Answered r held held (Refused n)
   unfolding given_of written
-  refuses_with e = rw e (refl, refl)
+  refuses_with e = rw e (record { value = refl; out_after = refl })
 
   pub gives_bytes : (held bs : Bytes) {out : Bytes} {n : ℕ} → r ≡ given bs → n ≡ length bs → out ≡ bs ++ drop (length bs) held → Answered r held out (Length n)
   unfolding given_of written
-  gives_bytes held bs e k f = rw e (ap Length k, f)
+  gives_bytes held bs e k f = rw e (record { value = ap Length k; out_after = f })
 
 -- "then 16": an answer is no longer than the output
 pub fitted_short : (room : ℕ) (r : Res Bytes) → length (answer_of (fitted room r)) ≤ room

@@ -1,0 +1,14 @@
+use mathlib.Core.Path.{◌≡◌, refl, ◌∙◌}
+use Prim.Native.Nat.{◌-◌, ◌≤◌}
+use native.Mathlib.Omega.{arith}
+use lib.ListN.{length, drop}
+use Rattle.numbers.specs.Orders.{order_of, bytes_order}
+use Rattle.numbers.proofs.ComparingLaws.{same_byte, other_byte, longer, ended}
+use Rattle.numbers.proofs.comparing.compare_bytes.Given as goal
+
+abbrev pub invariant-loop-i : goal.invariant-loop-i
+invariant-loop-i l =
+    (l.i ≤ length l.second) × (l.i ≤ length l.top) × (bytes_order (drop l.i l.second) (drop l.i l.top) ≡ bytes_order l.second l.top)
+
+abbrev pub decreases-loop-i : goal.decreases-loop-i
+decreases-loop-i l = length l.second - l.i

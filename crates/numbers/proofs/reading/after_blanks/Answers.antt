@@ -1,0 +1,27 @@
+-- `reading::after_blanks` meets its contract: no blank is left out that stands after another byte.
+use mathlib.Core.Path.{◌≡◌, refl, ◌∙◌}
+use mathlib.Core.Logic.{⊎_elim}
+use Prim.Native.Nat.{◌-◌, ◌≤◌}
+use native.Mathlib.Omega.{arith}
+use lib.ListN.{length, drop}
+use Rattle.paper.specs.Numbers.{after_blanks}
+use Rattle.lent.proofs.Scans.{whole_rest}
+use Rattle.numbers.proofs.ReadingLaws.{blank_goes, front_found, front_end}
+use Rattle.numbers.proofs.reading.after_blanks.Goals as goal
+
+pub loop-i-init : goal.loop-i-init
+loop-i-init c = (omega arith, refl)
+
+pub loop-i-preserved : goal.loop-i-preserved
+loop-i-preserved c =
+    let s = c.args.s.now in
+    let l = c.loop-i in
+    (omega arith, blank_goes s l.i (omega arith) c.if-s-i-eq32.true ∙ l.invariant.1)
+
+pub returns : goal.returns
+returns c =
+    let s = c.args.s.now in
+    let l = c.loop-i in
+    whole_rest s l.i
+    ∙ ⊎_elim (λ (w : _). front_found s l.i w.0.taken w.2.left) (λ (w : _). front_end s l.i w.left) c.loop-i-test.branch
+    ∙ l.invariant.1

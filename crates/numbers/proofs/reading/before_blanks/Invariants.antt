@@ -1,0 +1,16 @@
+use mathlib.Core.Path.{◌≡◌, ap, ◌∙◌}
+use mathlib.Core.Logic.{⊎_elim}
+use Prim.Native.Nat.{◌≤◌}
+use native.Mathlib.Nat.{sub-zero}
+use native.Mathlib.Omega.{arith}
+use lib.ListN.{length, take}
+use lib.Seq.{take-length}
+use Rattle.paper.specs.Numbers.{before_blanks}
+use Rattle.numbers.proofs.ReadingLaws.{blank_left, back_found, back_end}
+use Rattle.numbers.proofs.reading.before_blanks.Given as goal
+
+abbrev pub invariant-loop-end : goal.invariant-loop-end
+invariant-loop-end l = (l.end ≤ length l.s) × (before_blanks (take l.end l.s) ≡ before_blanks l.s)
+
+abbrev pub decreases-loop-end : goal.decreases-loop-end
+decreases-loop-end l = l.end

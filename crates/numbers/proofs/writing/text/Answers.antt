@@ -1,0 +1,26 @@
+-- `writing::text` meets its contract: a minus before a size, or the size alone.
+use mathlib.Core.Path.{◌∙◌}
+use native.Mathlib.Omega.{arith}
+use lib.ListN.{length-set}
+use borrow.Author.Rules.{rules}
+use Rattle.paper.proofs.Numerals.{length_decimal}
+use Rattle.numbers.specs.Forms.{whole}
+use Rattle.numbers.proofs.WritingLaws.{minus_written, plain_written}
+use Rattle.numbers.proofs.writing.text.Goals as goal
+
+pub overflow_add-result : goal.overflow_add-result
+overflow_add-result c = omega (arith, length_decimal c.args.x.size)
+
+pub shape_of-out-then-x : goal.shape_of-out-then-x
+shape_of-out-then-x c = c.decimal.auto.out ∙ simp length-set
+
+pub returns-then-x : goal.returns-then-x
+returns-then-x c =
+    let a = c.args in let d = c.decimal in
+    minus_written (whole a.x) d.result a.out.now d.new.1.0 c.if-x.true (omega arith) d.ensures.0
+    d.ensures.1
+
+pub returns : goal.returns
+returns c =
+    let a = c.args in let d = c.decimal-2 in
+    plain_written (whole a.x) d.result a.out.now d.new.1.0 c.if-x.false d.ensures.0 d.ensures.1
