@@ -216,6 +216,14 @@ class Function:
                 break
             contexts[hit[1]] = self.up(contexts[hit[2]], hit[3].count(".before"))
             root[hit[1]] = root[hit[2]]
+        # let-bound steps are written out, as what stands behind them has new names
+        for m in list(re.finditer(r"\blet ([\w'₀-₉]+) = (([\w'₀-₉]+)(?:\.before)*\.([\w'-]+)) in\s*", body)):
+            name, whole, head, step = m[1], m[2], m[3], m[4]
+            if head not in contexts or norm(step) in FREE | {"loop"} or name in contexts:
+                continue
+            body = re.sub(r"(?<![\w'.₀-₉])%s(?=\.[\w'-])" % re.escape(name), whole, body)
+            if len(re.findall(r"(?<![\w'.₀-₉])%s(?![\w'₀-₉])" % re.escape(name), body)) == 1:
+                body = body.replace(m[0], "", 1)
         for name in sorted(contexts, key=len, reverse=True):
 
             def path(m, name=name):
@@ -443,7 +451,7 @@ def turn_file(folder, crate, path, names, labels):
                     raise No(f"{arg} is no plain definition")
                 binders, body = m[1].split(), b.body[m.end() :]
                 given[arg] = new
-        if body.strip() in TRIVIAL:
+        if body.strip() in TRIVIAL and not (unfolding and body.strip() == "refl"):
             continue
         if not binders:
             # given as a function

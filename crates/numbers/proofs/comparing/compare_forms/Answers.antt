@@ -12,9 +12,7 @@ returns-in_default c = rw (passed_up refl c.in_default.is c.refusal.ensures)
 
 pub returns-in_default-right : goal.returns-in_default-right
 unfolding compared_gives numbers_order
-returns-in_default-right c =
-    let x = c.left-1 in
-    rw (a_number refl x.given.1, passed_up refl c.in_default-right.is c.refusal-in_default-right.ensures)
+returns-in_default-right c = rw (a_number refl c.in-Number.is, passed_up refl c.in_default-right.is c.refusal-in_default-right.ensures)
 
 pub returns : goal.returns
 unfolding compared_gives numbers_order

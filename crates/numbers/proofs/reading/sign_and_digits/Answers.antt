@@ -6,6 +6,7 @@ use borrow.Author.Rules.{rules}
 use Rattle.numbers.specs.Forms.{form_gives}
 use Rattle.numbers.proofs.ReadingLaws.{no_bytes, after_sign, no_sign, no_digit}
 use Rattle.numbers.proofs.reading.sign_and_digits.Goals as goal
+use Rattle.numbers.proofs.reading.sign_and_digits.Goals.{then-first-lt48+in-43, else-first-lt48}
 
 pub returns-then-s-eq0 : goal.returns-then-s-eq0
 unfolding form_gives
@@ -16,11 +17,18 @@ unfolding form_gives
 returns-in_default c = no_digit c.args.s.now c.if-first-lt48.true c.in_default.in_default-own.rest.1
 
 pub digits_alone-requires : goal.digits_alone-requires
-digits_alone-requires c = ⊎_elim (λ w. omega (arith, w.2)) (λ w. omega (arith, w.1)) c.if-first-lt48.branch
+digits_alone-requires c =
+    elim c.if-first-lt48.branch [
+      then-first-lt48+in-43 w ↦ omega (arith, w.at-is)
+    | else-first-lt48 w ↦ omega (arith, w.at-is)
+    ]
 
 pub returns : goal.returns
 unfolding form_gives
 returns c =
     let s = c.args.s.now in
     c.digits_alone.ensures
-    ∙ ⊎_elim (λ w. rw w.2 (after_sign s w.1.keys1)) (λ w. rw w.1 (no_sign s w.0.left)) c.if-first-lt48.branch
+    ∙ elim c.if-first-lt48.branch [
+      then-first-lt48+in-43 w ↦ rw w.at-is (after_sign s w.in-43.is)
+    | else-first-lt48 w ↦ rw w.at-is (no_sign s w.if-first-lt48.false)
+    ]

@@ -11,7 +11,6 @@ digits-requires c =
     omega (arith, wide c.width-k.result n c.width-k.ensures, length_decimal n)
 
 pub returns : goal.returns
-returns c =
-    let a = c.args in let w = c.width-k in
-    let d = c.digits in
-    decimal_placed w.result a.n a.at a.out.now d.new.1.1.0 w.ensures d.ensures
+returns c = let a = c.args in 
+    let it = decimal_placed c.width-k.result a.n a.at a.out.now c.digits.new.out c.width-k.ensures c.digits.ensures in
+    record { value = it.0; out_after = it.1 }

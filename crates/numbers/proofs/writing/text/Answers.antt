@@ -16,11 +16,13 @@ shape_of-out-then-x c = c.decimal.auto.out ∙ simp length-set
 
 pub returns-then-x : goal.returns-then-x
 returns-then-x c =
-    let a = c.args in let d = c.decimal in
-    minus_written (whole a.x) d.result a.out.now d.new.1.0 c.if-x.true (omega arith) d.ensures.0
-    d.ensures.1
+    let a = c.args in 
+    let it = minus_written (whole a.x) c.decimal.result a.out.now c.decimal.new.out c.if-x.true (omega arith) c.decimal.ensures.value
+    c.decimal.ensures.out_after in
+    record { value = it.0; out_after = it.1 }
 
 pub returns : goal.returns
 returns c =
-    let a = c.args in let d = c.decimal-2 in
-    plain_written (whole a.x) d.result a.out.now d.new.1.0 c.if-x.false d.ensures.0 d.ensures.1
+    let a = c.args in 
+    let it = plain_written (whole a.x) c.decimal-2.result a.out.now c.decimal-2.new.out c.if-x.false c.decimal-2.ensures.value c.decimal-2.ensures.out_after in
+    record { value = it.0; out_after = it.1 }
