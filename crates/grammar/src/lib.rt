@@ -2,6 +2,7 @@
 // The readers go on from those of crates/readers, and answer as they do.
 // A literal is a place in the code, not a copy. Every contract is an equality with a definition that proofs/ tie to crates/paper.
 #![tactic(auto)]
+
 pub mod addresses;
 pub mod elms;
 pub mod heads;
