@@ -451,15 +451,18 @@ def turn_file(folder, crate, path, names, labels):
                     raise No(f"{arg} is no plain definition")
                 binders, body = m[1].split(), b.body[m.end() :]
                 given[arg] = new
-        if body.strip() in TRIVIAL and not (unfolding and body.strip() == "refl"):
+        if body.strip() == "search rules" or (body.strip() in TRIVIAL and not unfolding):
             continue
         if not binders:
             # given as a function
             binders, body = ["c"], "(" + body + ") c"
         c = binders[0]
         body, unfolding = with_lemmas(body, c, place, unfolding)
-        if len(binders) > 1 and re.search(r"(?<![\w'.])%s(?![\w'])" % re.escape(binders[1]), body):
-            f.notes.append(f"{new} names {binders[1]}")
+        if len(binders) > 1 and binders[1] == "κs":
+            if re.search(r"(?<![\w'.])κs(?![\w'])", body):
+                f.notes.append(f"{new} names {binders[1]}")
+        elif len(binders) > 1:
+            body = "λ " + " ".join(binders[1:]) + ". " + body
         if old in f.asked and len(f.asked[old]) > 1:
             made = as_record(body, f.asked[old])
             if made is None:

@@ -154,8 +154,8 @@ unfolding report_in verdict_of report
 reports (accepted cs) = refl
 reports (faulty n k) = refl
 
-pub verdicts : (s : Bytes) {r : Checked} {v : Verdict} → check s ≡ r → v ≡ verdict_of r → (v ≡ verdict_of (check s)) × (report_in v ≡ report (check s))
-verdicts s {r} {v} e f = let g : v ≡ verdict_of (check s) = f ∙ ap verdict_of (sym e) in (g, ap report_in g ∙ reports (check s))
+pub verdicts : (s : Bytes) {r : Checked} {v : Verdict} → check s ≡ r → v ≡ verdict_of r → record { value : v ≡ verdict_of (check s); result_value : report_in v ≡ report (check s) }
+verdicts s {r} {v} e f = let g : v ≡ verdict_of (check s) = f ∙ ap verdict_of (sym e) in record { value = g; result_value = ap report_in g ∙ reports (check s) }
 
 pub verdict_faulty : (n k : ℕ) → Verdict.Refused n k ≡ verdict_of (faulty n k)
 unfolding verdict_of

@@ -2,6 +2,7 @@
 // steps that it counts.
 // Every contract is an equality with a definition that proofs/ tie to crates/paper.
 #![tactic(auto)]
+
 mod strings;
 mod tallies;
 

@@ -1,0 +1,6 @@
+-- `tallies::none_yet` meets its contract.
+use borrow.Author.Rules.{rules}
+use Rattle.judging.proofs.tallies.none_yet.Goals as goal
+
+pub returns : goal.returns
+returns c = rw c.no_steps-counts.ensures
