@@ -1,6 +1,5 @@
 -- `records::answer` meets its contract, case by case.
 use mathlib.Core.Path.{sym, ap}
-use borrow.Author.Rules.{rules}
 use Rattle.records.specs.Planned.{plan_answer}
 use Rattle.records.proofs.answer.Goals as goal
 

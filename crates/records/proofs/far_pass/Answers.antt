@@ -1,6 +1,5 @@
 -- `records::far_pass` meets its contract: the bytes behind the blocks tell what all of them tell.
 use mathlib.Core.Path.{sym, ◌∙◌}
-use borrow.Author.Rules.{rules}
 use Rattle.records.proofs.far_pass.Goals as goal
 
 pub returns : goal.returns

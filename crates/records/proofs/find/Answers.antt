@@ -1,6 +1,5 @@
 -- `records::find` meets its contract: the tests, and behind them the place.
 use mathlib.Core.Path.{◌∙◌}
-use borrow.Author.Rules.{rules}
 use Rattle.records.proofs.Finding.{find_refused, find_place}
 use Rattle.records.proofs.find.Goals as goal
 

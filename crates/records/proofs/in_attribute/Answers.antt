@@ -2,7 +2,6 @@
 use Prim.Native.Nat.{ℕ, suc, ◌-◌}
 use mathlib.Core.Path.{◌≡◌, sym, ap, ◌∙◌}
 use native.Mathlib.Omega.{arith}
-use borrow.Author.Rules.{rules}
 use Rattle.records.specs.Scan.{in_value, in_attribute}
 use Rattle.records.specs.declared.Stop.{Stop}
 use Rattle.records.proofs.in_attribute.Goals as goal

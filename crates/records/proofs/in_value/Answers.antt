@@ -2,7 +2,6 @@
 use Prim.Native.Nat.{suc, ◌-◌}
 use mathlib.Core.Path.{◌≡◌, sym, ap, ◌∙◌}
 use native.Mathlib.Omega.{arith}
-use borrow.Author.Rules.{rules}
 use Rattle.paper.specs.Sizes.{subvalue_mark}
 use Rattle.records.specs.Scan.{spot_at, in_value}
 use Rattle.records.specs.declared.Stop.{Stop}

@@ -1,7 +1,6 @@
 -- `records::lawful` meets its contract: the tests of a record in their order.
 use mathlib.Core.Path.{sym, ◌∙◌}
 use mathlib.Core.Bool.{true, false}
-use borrow.Author.Rules.{rules}
 use Rattle.records.proofs.Refusing.{long_record, tested_record}
 use Rattle.records.proofs.lawful.Goals as goal
 

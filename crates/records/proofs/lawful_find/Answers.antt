@@ -1,6 +1,5 @@
 -- `records::lawful_find` meets its contract: the record's tests, and behind them the address's.
 use mathlib.Core.Path.{◌∙◌}
-use borrow.Author.Rules.{rules}
 use Rattle.paper.specs.Records.{lawful_address}
 use Rattle.records.specs.Found.{lawful_find}
 use Rattle.records.proofs.Refusing.{told_record, then_stopped, then_passed}

@@ -1,7 +1,6 @@
 -- `records::lawful_id` meets its contract: the first attribute mark ends the id, and the two tests are those of the id.
 use mathlib.Core.Path.{sym, ◌∙◌}
 use mathlib.Core.Bool.{true, false}
-use borrow.Author.Rules.{rules}
 use Rattle.records.proofs.Refusing.{long_id, tested_id, id_inside}
 use Rattle.records.proofs.lawful_id.Goals as goal
 

@@ -1,7 +1,6 @@
 -- `records::lawful_new` meets its contract: the tests of the new bytes in their order.
 use mathlib.Core.Path.{refl, sym, ◌∙◌}
 use mathlib.Core.Bool.{true, false}
-use borrow.Author.Rules.{rules}
 use Rattle.paper.specs.Sizes.{entry_most}
 use Rattle.records.proofs.Replacing.{long_element, tested_element}
 use Rattle.records.proofs.lawful_new.Goals as goal

@@ -1,6 +1,5 @@
 -- `records::locate` meets its contract: the attribute, and then inside it.
 use mathlib.Core.Path.{ap, ◌∙◌}
-use borrow.Author.Rules.{rules}
 use Rattle.records.specs.Scan.{in_attribute, spot}
 use Rattle.records.specs.declared.Stop.{Stop}
 use Rattle.records.proofs.locate.Goals as goal

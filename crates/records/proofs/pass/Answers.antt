@@ -1,5 +1,4 @@
 -- `records::pass` meets its contract: either way it is the one scan, which stops within the record.
-use borrow.Author.Rules.{rules}
 use Rattle.records.proofs.Scanning.{stop_told}
 use Rattle.records.proofs.pass.Goals as goal
 

@@ -1,8 +1,7 @@
 -- `records::skip` meets its contract: from place to place the scan of what is left stays the same.
-use Prim.Native.Nat.{◌-◌, ◌≤◌}
 use mathlib.Core.Path.{◌≡◌, refl, sym, ap, ◌∙◌}
 use native.Mathlib.Omega.{arith}
-use lib.ListN.{length, drop}
+use lib.ListN.{drop}
 use Rattle.records.specs.Scan.{skip}
 use Rattle.records.proofs.Turns.{skip_end, skip_closed, skip_mark, skip_other, skip_none}
 use Rattle.records.proofs.skip.Goals as goal

@@ -1,9 +1,7 @@
 use Prim.Native.Nat.{◌-◌, ◌≤◌}
-use mathlib.Core.Path.{◌≡◌, refl, sym, ap, ◌∙◌}
-use native.Mathlib.Omega.{arith}
+use mathlib.Core.Path.{◌≡◌}
 use lib.ListN.{length, drop}
 use Rattle.records.specs.Scan.{skip}
-use Rattle.records.proofs.Turns.{skip_end, skip_closed, skip_mark, skip_other, skip_none}
 use Rattle.records.proofs.skip.Given as goal
 
 abbrev pub invariant-loop-left : goal.invariant-loop-left

@@ -1,12 +1,9 @@
 -- `records::skip_blocks` meets its contract: from block to block the scan of what is left stays the same.
-use Prim.Native.Nat.{◌+◌, ◌-◌, ◌≤◌, ◌<◌}
+use Prim.Native.Nat.{◌+◌, ◌<◌}
 use mathlib.Core.Path.{◌≡◌, refl, sym, ◌∙◌}
 use mathlib.Core.Bool.{false}
 use native.Mathlib.Omega.{arith}
-use borrow.Author.Rules.{rules}
-use lib.ListN.{length, drop}
 use Rattle.lent.specs.Scan.{range}
-use Rattle.records.specs.Scan.{skip}
 use Rattle.records.proofs.Turns.{skip_block, neither}
 use Rattle.records.proofs.skip_blocks.Goals as goal
 

@@ -1,12 +1,7 @@
-use Prim.Native.Nat.{◌+◌, ◌-◌, ◌≤◌, ◌<◌}
-use mathlib.Core.Path.{◌≡◌, refl, sym, ◌∙◌}
-use mathlib.Core.Bool.{false}
-use native.Mathlib.Omega.{arith}
-use borrow.Author.Rules.{rules}
+use Prim.Native.Nat.{◌-◌, ◌≤◌}
+use mathlib.Core.Path.{◌≡◌}
 use lib.ListN.{length, drop}
-use Rattle.lent.specs.Scan.{range}
 use Rattle.records.specs.Scan.{skip}
-use Rattle.records.proofs.Turns.{skip_block, neither}
 use Rattle.records.proofs.skip_blocks.Given as goal
 
 abbrev pub invariant-loop-at : goal.invariant-loop-at

@@ -1,5 +1,4 @@
 -- `records::spot_at` meets its contract: the first mark from the level's own on ends the piece.
-use borrow.Author.Rules.{rules}
 use Rattle.records.proofs.Spots.{spot_end}
 use Rattle.records.proofs.spot_at.Goals as goal
 

@@ -1,9 +1,5 @@
 -- `records::tally` meets its contract: the marks among the bytes passed, and the rest tells the rest.
-use Prim.Native.Nat.{◌+◌, ◌-◌, ◌≤◌}
-use mathlib.Core.Path.{◌≡◌}
 use native.Mathlib.Omega.{arith}
-use lib.ListN.{length, drop}
-use Rattle.records.specs.Scan.{tally}
 use Rattle.records.proofs.Turns.{tally_hit, tally_miss, tally_all}
 use Rattle.records.proofs.tally.Goals as goal
 

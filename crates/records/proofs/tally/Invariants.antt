@@ -1,9 +1,7 @@
 use Prim.Native.Nat.{◌+◌, ◌-◌, ◌≤◌}
 use mathlib.Core.Path.{◌≡◌}
-use native.Mathlib.Omega.{arith}
 use lib.ListN.{length, drop}
 use Rattle.records.specs.Scan.{tally}
-use Rattle.records.proofs.Turns.{tally_hit, tally_miss, tally_all}
 use Rattle.records.proofs.tally.Given as goal
 
 abbrev pub invariant-loop-i : goal.invariant-loop-i
