@@ -240,14 +240,18 @@ class Function:
         body = re.sub(CHAIN % "|".join(re.escape(n) for n in sorted(contexts, key=len, reverse=True)), path, body)
         # a test of `!b` tells of b itself now
         body = re.sub(r"not-(true|false) _ (c\.if-not[\w.-]*\.\1)\b", r"\2", body)
-        # lets of contexts that nothing names any more
-        for name in list(contexts):
-            if name == root[name]:
-                continue
-            form = re.compile(r"\blet %s = [\w'₀-₉]+(?:\.before)* in\s*" % re.escape(name))
-            uses = len(re.findall(r"(?<![\w'.₀-₉])%s(?![\w'₀-₉])" % re.escape(name), body))
-            if len(form.findall(body)) == uses:
-                body = form.sub("", body)
+        # lets of contexts that nothing names any more, the last one first, as each may name the one before it
+        while True:
+            before = body
+            for name in list(contexts):
+                if name == root[name]:
+                    continue
+                form = re.compile(r"\blet %s = [\w'₀-₉]+(?:\.before)* in\s*" % re.escape(name))
+                uses = len(re.findall(r"(?<![\w'.₀-₉])%s(?![\w'₀-₉])" % re.escape(name), body))
+                if len(form.findall(body)) == uses:
+                    body = form.sub("", body)
+            if body == before:
+                break
         return body
 
 
