@@ -15,7 +15,7 @@ CRATES = None
 OPEN, CLOSE = "({[", ")}]"
 FREE = {"args", "requires", "ranges", "lifetimes", "well_formed", "well-formed", "type_inv", "utf8"}
 TRIVIAL = {"search rules", "omega arith", "refl", "tt"}
-CHAIN = r"(?<![\w'.₀-₉◌])%s((?:\.before)*)((?:\.[\w'₀-₉«»-]+)*)"
+CHAIN = r"(?<![\w'.₀-₉◌])(%s)(?![\w'₀-₉-])((?:\.before)*)((?:\.[\w'₀-₉«»-]+)*)"
 
 
 class No(Exception):
@@ -118,9 +118,8 @@ class Function:
 
     def up(self, i, n):
         for _ in range(n):
-            i = self.parent(i)
-            if i is None:
-                raise No("too many befores")
+            above = self.parent(i)
+            i = i if above is None else above
         return i
 
     def clause_labels(self, callee, kind):
@@ -176,11 +175,17 @@ class Function:
                         tail = self.labelled(tail, self.clause_labels(callee, "ensures")) if callee else tail
                     return [self.arms[i][0], new] + tail
             i = self.parent(i)
-        i = place
-        while i is not None and norm(self.places[i][2][0]) != norm(step):
+        # a kit may count one place more or less on the way, and each step's name stands once on it
+        chain = []
+        i = asked
+        while i is not None:
+            chain.append(i)
             i = self.parent(i)
-        if i is None:
+        near = chain.index(place) if place in chain else 0
+        found = [k for k, i in enumerate(chain) if norm(self.places[i][2][0]) == norm(step)]
+        if not found:
             raise No(f"no step {step} at {self.places[place][0]}")
+        i = chain[min(found, key=lambda k: abs(k - near))]
         new, callee = self.places[i][2][1], self.places[i][3]
         if rest and callee:
             if rest[0] == "ensures":
@@ -217,33 +222,36 @@ class Function:
             contexts[hit[1]] = self.up(contexts[hit[2]], hit[3].count(".before"))
             root[hit[1]] = root[hit[2]]
         # let-bound steps are written out, as what stands behind them has new names
-        for m in list(re.finditer(r"\blet ([\w'₀-₉]+) = (([\w'₀-₉]+)(?:\.before)*\.([\w'-]+)) in\s*", body)):
+        for m in list(re.finditer(r"\blet ([\w'₀-₉]+) = (([\w'₀-₉]+)(?:\.before)*\.([\w'-]+)(?:\.[\w'-]+)*) in\s*", body)):
             name, whole, head, step = m[1], m[2], m[3], m[4]
             if head not in contexts or norm(step) in FREE | {"loop"} or name in contexts:
                 continue
             body = re.sub(r"(?<![\w'.₀-₉])%s(?=\.[\w'-])" % re.escape(name), whole, body)
             if len(re.findall(r"(?<![\w'.₀-₉])%s(?![\w'₀-₉])" % re.escape(name), body)) == 1:
                 body = body.replace(m[0], "", 1)
-        for name in sorted(contexts, key=len, reverse=True):
+        def path(m):
+            name = m[1]
+            place = self.up(contexts[name], m[2].count(".before"))
+            fields = [f for f in m[3].split(".") if f]
+            if not fields:
+                return m[0]
+            return ".".join([root[name]] + self.field(contexts[root[name]], place, fields))
 
-            def path(m, name=name):
-                place = self.up(contexts[name], m[1].count(".before"))
-                fields = [f for f in m[2].split(".") if f]
-                if not fields:
-                    return m[0]
-                return ".".join([root[name]] + self.field(contexts[root[name]], place, fields))
-
-            body = re.sub(CHAIN % re.escape(name), path, body)
+        body = re.sub(CHAIN % "|".join(re.escape(n) for n in sorted(contexts, key=len, reverse=True)), path, body)
         # a test of `!b` tells of b itself now
         body = re.sub(r"not-(true|false) _ (c\.if-not[\w.-]*\.\1)\b", r"\2", body)
-        # lets of contexts that nothing names any more
-        for name in list(contexts):
-            if name == root[name]:
-                continue
-            form = re.compile(r"\blet %s = [\w'₀-₉]+(?:\.before)* in\s*" % re.escape(name))
-            uses = len(re.findall(r"(?<![\w'.₀-₉])%s(?![\w'₀-₉])" % re.escape(name), body))
-            if len(form.findall(body)) == uses:
-                body = form.sub("", body)
+        # lets of contexts that nothing names any more, the last one first, as each may name the one before it
+        while True:
+            before = body
+            for name in list(contexts):
+                if name == root[name]:
+                    continue
+                form = re.compile(r"\blet %s = [\w'₀-₉]+(?:\.before)* in\s*" % re.escape(name))
+                uses = len(re.findall(r"(?<![\w'.₀-₉])%s(?![\w'₀-₉])" % re.escape(name), body))
+                if len(form.findall(body)) == uses:
+                    body = form.sub("", body)
+            if body == before:
+                break
         return body
 
 

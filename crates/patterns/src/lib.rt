@@ -1,6 +1,7 @@
 // The P code (document 02, L1): "The code gives the element if it can be cut into consecutive parts that meet the tests in turn, else empty."
 // All cuts are tried at once, test by test, so that the work is one pass over the element for each test.
 #![tactic(auto)]
+
 ghost use Rattle.std.specs.Prelude.{◌≡◌, ◌≤◌, length};
 ghost use Rattle.paper.specs.Sizes.{entry_most};
 ghost use Rattle.paper.specs.Refusals.{given};

@@ -250,6 +250,7 @@ module _ (m : ℕ) (low : m ≤ attribute_mark) where
     scan = go (split m piece) (split_filled m piece) (split_below (upto_below (suc m) here))
       where
         go : (ps : List Bytes) → Filled ps → All (Below m) ps → Scan ps (behind (suc m) here) n
+        go [] e h = elim e [ ]
         go (p ∷ ps) filled h = scan_pieces n p ps h (behind_shut (suc m) here)
 
     whole : join m (split m piece) ++ behind (suc m) here ≡ here
@@ -306,6 +307,9 @@ module _ (m : ℕ) (low : m ≤ attribute_mark) where
         rw same (shut (shut_lower s))
 
 -- what a scan answers stops within the record
+abbrev pub Told : ℕ → Bytes → ℕ → ℕ → Stop → Type 0
+Told m item at n r = record { value : r ≡ skip m (drop at item) at n; at_in_bounds : r.at ≤ length item }
+
 pub stop_told : {m : ℕ} {r : Stop} (item : Bytes) (at n : ℕ) → m ≤ attribute_mark → at ≤ length item → r ≡ skip m (drop at item) at n
-    → (r ≡ skip m (drop at item) at n) × (r.at ≤ length item)
-stop_told {m} item at n h inside e = (e, rw e (stop_inside m h item at n inside))
+    → Told m item at n r
+stop_told {m} item at n h inside e = record { value = e; at_in_bounds = rw e (stop_inside m h item at n inside) }

@@ -4,7 +4,6 @@ use mathlib.Core.List.{◌++◌, append_assoc}
 use Prim.Native.Nat.{ℕ, ◌+◌, ◌-◌, ◌≤◌}
 use native.Mathlib.Nat.{zero-add}
 use native.Mathlib.Omega.{arith}
-use borrow.Author.Rules.{zero≤}
 use lib.ListN.{length, take, drop, replicate, length-append, length-drop, length-replicate}
 use lib.Seq.{length-take-le, take_all}
 use Rattle.paper.specs.Bytes.{Bytes, buffer}
@@ -34,7 +33,7 @@ whole_laid item new d p at x z ordered inside room lx eat ex ez =
     let nf : length front ≡ at = length-append (take p.start item) (marks p) ∙ omega (arith, length-take-le p.start item (omega arith), length_marks p) in
     let na : left ≡ length d - length answer = omega (arith, length_changed item p new (omega arith)) in
     let all : Laid (front ++ (new ++ rest ++ zeros)) d (length d) z 0
-    = laid_behind (laid_at ex (sym (zero-add _ ∙ nf))) (laid_at ez (omega (arith, length-append (new ++ rest) zeros, length-append new rest, length-replicate {A = ℕ} left 0))) zero≤ in
+    = laid_behind (laid_at ex (sym (zero-add _ ∙ nf))) (laid_at ez (omega (arith, length-append (new ++ rest) zeros, length-append new rest, length-replicate {A = ℕ} left 0))) (omega arith) in
     all.bytes ∙ over_all d (front ++ (new ++ rest ++ zeros)) (sym (zero-add _) ∙ all.place)
     ∙ ap (λ (r : Bytes). front ++ (new ++ r ++ zeros)) er
     ∙ grouped front new (drop p.end item) zeros

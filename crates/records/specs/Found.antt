@@ -2,7 +2,7 @@
 use Rattle.std.specs.Prelude.{ℕ, ◌+◌, ◌≤◌, [], length, take, drop}
 use Rattle.std.proofs.Math.Option.{Option, none, some}
 use Rattle.paper.specs.Bytes.{Bytes}
-use Rattle.paper.specs.Refusals.{Res, given, refused, ◌>>=◌, ◌>>◌}
+use Rattle.paper.specs.Refusals.{Res, given, refused, ◌>>◌}
 use Rattle.paper.specs.Records.{Part, lawful_record, lawful_address}
 use Rattle.records.specs.declared.Found.{Found}
 use Rattle.records.specs.declared.Found.TheVariants.{At, Missing, Refused}

@@ -3,6 +3,7 @@
 // by blocks where there may be many bytes, which is compiled to SIMD, and one by one where there are few.
 // `find`, `extract` and `replace` take any input; the rest is for the crates above, which have tested the record.
 #![tactic(auto)]
+
 ghost use Rattle.std.specs.Prelude.{◌≡◌, ◌+◌, ◌-◌, ◌^◌, ◌≤◌, ◌<◌, ◌++◌, length, take, drop, replicate};
 ghost use Rattle.paper.specs.Bytes.{any, buffer};
 ghost use Rattle.paper.specs.Sizes.{attribute_mark};

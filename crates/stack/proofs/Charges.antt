@@ -22,7 +22,7 @@ use Rattle.stack.specs.declared.Charge.{Charge}
 use Rattle.stack.specs.declared.Step.{Step}
 use Rattle.stack.specs.Slots.{element_slot, entry_at, stack_of, exchanged, exchanged_lengths, Slotted}
 use Rattle.stack.specs.Charging.{charge_of, charge_refusal, step_of, stack_after, held_after, putting, taken_two, exchanging, handed, Charges, Puts}
-use Rattle.stack.proofs.Putting.{Put, after_slotted, after_other, after_on_top, exchanged_slotted, exchanged_element, exchanged_stack}
+use Rattle.stack.proofs.Putting.{Put, put_done, Exchanged, after_slotted, after_other, after_on_top, exchanged_slotted, exchanged_element, exchanged_stack}
 
 -- as many entries as are held
 pub stack_length : (scratch : Bytes) (lens : List ℕ) (n : ℕ) → length (stack_of scratch lens n) ≡ n
@@ -52,7 +52,7 @@ handed_known {answer} {n} work e =
 
 -- what a call gave and wrote is what stands in front of the work buffer
 abbrev pub Gave : Res Bytes → Given → Bytes → Bytes → Type 0
-Gave x answer work work' = (answer ≡ given_of x) × (work' ≡ written work x)
+Gave x answer work work' = record { value : answer ≡ given_of x; out_after : work' ≡ written work x }
 
 handed_given : (x : Res Bytes) (work : Bytes) → handed (given_of x) (written work x) ≡ x
 unfolding handed given_of written
@@ -60,7 +60,7 @@ handed_given (given bs) work = ap given (take_at bs (drop (length bs) work) (len
 handed_given (refused n) work = refl
 
 pub gave_handed : {answer : Given} {work' : Bytes} (x : Res Bytes) (work : Bytes) → Gave x answer work work' → handed answer work' ≡ x
-gave_handed x work g = rw (g.0, g.1) (handed_given x work)
+gave_handed x work g = rw (g.value, g.out_after) (handed_given x work)
 
 -- and within the limit
 length_fits : {most : ℕ} {x : Res Bytes} → Holds (Fit most) x → length_in (given_of x) ≤ most
@@ -159,7 +159,7 @@ module _ {scratch : Bytes} {lens : List ℕ} (slotted : Slotted scratch lens) (l
     exchange_over told number = charged_over both both e (omega arith) told number
 
     pub exchange_within : {scratch' : Bytes} {lens' : List ℕ} {n : ℕ} → k + 1 < stack_most → charged ≡ Charge.Cost n
-        → (scratch' ≡ exchanged scratch lens k) × (lens' ≡ exchanged_lengths scratch lens k)
+        → Exchanged scratch lens k scratch' lens'
         → Charges left (exchanging scratch lens k) (Step.Done n (k + 2)) scratch lens scratch' lens'
     unfolding exchanging exchanged exchanged_lengths
     exchange_within room told done =
@@ -167,6 +167,6 @@ module _ {scratch : Bytes} {lens : List ℕ} (slotted : Slotted scratch lens) (l
         rw two
         (charged_within both both e (suc (suc k)) (omega arith) told
         (ap (λ (j : ℕ). suc (suc j)) (stack_length scratch lens k))
-        (exchanged_stack slotted k room (refl, refl) (refl, refl) done)
-        (exchanged_slotted slotted k room (refl, refl) (refl, refl) done)
-        (exchanged_element slotted k room (refl, refl) (refl, refl) done))
+        (exchanged_stack slotted k room (put_done _ _ _ _) (put_done _ _ _ _) done)
+        (exchanged_slotted slotted k room (put_done _ _ _ _) (put_done _ _ _ _) done)
+        (exchanged_element slotted k room (put_done _ _ _ _) (put_done _ _ _ _) done))

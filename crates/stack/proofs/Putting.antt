@@ -113,18 +113,25 @@ module _ {scratch : Bytes} {lens : List ℕ} (slotted : Slotted scratch lens) (k
 
 -- what putting leaves, as the code says it
 abbrev pub Put : Bytes → List ℕ → ℕ → Bytes → Bytes → List ℕ → Type 0
-Put scratch lens k bs scratch' lens' = (scratch' ≡ put_in scratch k bs) × (lens' ≡ put_length lens k bs)
+Put scratch lens k bs scratch' lens' = record { scratch_after : scratch' ≡ put_in scratch k bs; lens_after : lens' ≡ put_length lens k bs }
+
+pub put_done : (scratch : Bytes) (lens : List ℕ) (k : ℕ) (bs : Bytes) → Put scratch lens k bs (put_in scratch k bs) (put_length lens k bs)
+put_done scratch lens k bs = record { scratch_after = refl; lens_after = refl }
+
+-- and what exchanging two slots leaves
+abbrev pub Exchanged : Bytes → List ℕ → ℕ → Bytes → List ℕ → Type 0
+Exchanged scratch lens k scratch' lens' = record { scratch_after : scratch' ≡ exchanged scratch lens k; lens_after : lens' ≡ exchanged_lengths scratch lens k }
 
 module _ {scratch : Bytes} {lens : List ℕ} {scratch' : Bytes} {lens' : List ℕ} (slotted : Slotted scratch lens) (k : ℕ) (bs : Bytes)
     (here : k < slots) (fit : length bs ≤ entry_most) (put : Put scratch lens k bs scratch' lens') where
   pub after_slotted : Slotted scratch' lens'
-  after_slotted = rw (put.0, put.1) (put_slotted slotted k bs here fit)
+  after_slotted = rw (put.scratch_after, put.lens_after) (put_slotted slotted k bs here fit)
 
   pub after_same : entry_at scratch' lens' k ≡ bs
-  after_same = rw (put.0, put.1) (put_same slotted k bs here fit)
+  after_same = rw (put.scratch_after, put.lens_after) (put_same slotted k bs here fit)
 
   pub after_other : (j : ℕ) → j ≢ k → entry_at scratch' lens' j ≡ entry_at scratch lens j
-  after_other j ne = rw (put.0, put.1) (put_other slotted k bs here fit j ne)
+  after_other j ne = rw (put.scratch_after, put.lens_after) (put_other slotted k bs here fit j ne)
 
   -- and so do the slots below, as a stack
   after_above : (n : ℕ) → n ≤ k → stack_of scratch' lens' n ≡ stack_of scratch lens n
@@ -156,12 +163,12 @@ module _ {s₀ s₁ s₂ s₃ : Bytes} {l₀ l₁ l₂ l₃ : List ℕ} (slotted
       after_other aside_slotted k _ (omega arith) (entry_fits aside_slotted (k + 1) (omega arith)) down spare_slot (omega arith)
       ∙ after_same slotted spare_slot _ (omega arith) (entry_fits slotted k (omega arith)) aside
 
-  pub exchanged_by_copies : (s₃ ≡ exchanged s₀ l₀ k) × (l₃ ≡ exchanged_lengths s₀ l₀ k)
+  pub exchanged_by_copies : Exchanged s₀ l₀ k s₃ l₃
   unfolding exchanged exchanged_lengths
-  exchanged_by_copies = (
-    up.0 ∙ rw (spared, down.0, lower, aside.0),
-    up.1 ∙ rw (spared, down.1, lower, aside.1),
-  )
+  exchanged_by_copies = record {
+    scratch_after = up.scratch_after ∙ rw (spared, down.scratch_after, lower, aside.scratch_after);
+    lens_after = up.lens_after ∙ rw (spared, down.lens_after, lower, aside.lens_after);
+  }
 
 -- after the exchange: the two entries in the other order on the same stack, and the element in its slot
 module _ {s₀ s₁ s₂ s₃ : Bytes} {l₀ l₁ l₂ l₃ : List ℕ} (slotted : Slotted s₀ l₀) (k : ℕ) (room : k + 1 < stack_most)

@@ -2,6 +2,7 @@
 // Each call writes its answer in front of the lent output, or refuses and leaves the output as it was.
 // The contracts cite document 01 through `outcome`: what the code gives, within the limit on a step's result.
 #![tactic(auto)]
+
 ghost use Rattle.std.specs.Prelude.{◌≡◌, ◌≤◌, length};
 ghost use Rattle.paper.specs.Bytes.{any};
 ghost use Rattle.paper.specs.Sizes.{entry_most};

@@ -1,0 +1,13 @@
+use Prim.Native.Nat.{◌+◌, ◌-◌}
+use mathlib.Core.Path.{◌≡◌}
+use native.Mathlib.Omega.{arith}
+use borrow.Author.Rules.{rules}
+use Rattle.codes.specs.Meaning.{class_of}
+use Rattle.patterns.proofs.Marking.{Running, running_start, running_next}
+use Rattle.patterns.proofs.moving.carry_run.Given as goal
+
+abbrev pub invariant-loop-i : goal.invariant-loop-i
+invariant-loop-i l = Running (class_of l.class) l.count l.e l.initial.reach l.run l.i l.reach
+
+abbrev pub decreases-loop-i : goal.decreases-loop-i
+decreases-loop-i l = l.i

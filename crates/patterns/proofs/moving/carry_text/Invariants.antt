@@ -1,0 +1,13 @@
+use Prim.Native.Nat.{◌+◌, ◌-◌, ◌≤◌}
+use mathlib.Core.Path.{◌≡◌}
+use native.Mathlib.Omega.{arith}
+use lib.ListN.{length}
+use Rattle.patterns.specs.Reach.{Carried, starts}
+use Rattle.patterns.proofs.Marking.{carried_start, carried_next}
+use Rattle.patterns.proofs.moving.carry_text.Given as goal
+
+abbrev pub invariant-loop-i : goal.invariant-loop-i
+invariant-loop-i l = (l.i + length l.text ≤ length l.e + 1) × Carried (starts l.text) (length l.text) l.e l.i l.initial.reach l.reach
+
+abbrev pub decreases-loop-i : goal.decreases-loop-i
+decreases-loop-i l = l.i

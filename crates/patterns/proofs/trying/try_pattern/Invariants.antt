@@ -1,0 +1,16 @@
+use Prim.Native.Nat.{◌-◌, ◌≤◌, ◌<◌}
+use mathlib.Core.Path.{◌≡◌, ◌∙◌}
+use native.Mathlib.Omega.{arith}
+use borrow.Author.Rules.{rules}
+use lib.ListN.{length}
+use Rattle.readers.proofs.Answering.{tests, read_is}
+use Rattle.readers.proofs.Bytes.{peeked_within}
+use Rattle.readers.proofs.PatternReads.{test_within}
+use Rattle.patterns.proofs.Choosing.{Trying, trying_start, trying_none, trying_next, trying_last, test_stands}
+use Rattle.patterns.proofs.trying.try_pattern.Given as goal
+
+abbrev pub invariant-loop-test : goal.invariant-loop-test
+invariant-loop-test l = (l.from ≤ l.at) × (length l.reach ≡ length l.initial.reach) × Trying l.code l.e l.from l.at l.reach
+
+abbrev pub decreases-loop-test : goal.decreases-loop-test
+decreases-loop-test l = length l.code - l.at
