@@ -10,8 +10,9 @@ ghost use Rattle.lent.specs.Scan.{upto};
 ghost use Rattle.console.specs.Lines.{numbered, shown, responded, line_most};
 
 use grammar::ReadAddress;
-use libc::{STDIN_FILENO, STDOUT_FILENO};
 use paper::{Limit, Mark};
+use std::io;
+use std::io::Write;
 
 // "only 65,536 bytes are read"
 const READS: usize = 65_536;
@@ -111,10 +112,10 @@ fn answer(input: &[u8], line: &mut [u8]) -> usize
     )
 }
 
-fn main() {
+fn main(rt: HostRuntime) -> io::Result<()> {
     let mut input = [0u8; READS];
     let mut line = [0u8; LINE];
-    let read = io::read_full(STDIN_FILENO, &mut input);
+    let read = streams::read_full(&mut rt.stdin(), &mut input)?;
     let length = answer(&input[..read], &mut line);
-    io::write_all(STDOUT_FILENO, &line[..length]);
+    io::writer(&rt).write_all(&line[..length])
 }

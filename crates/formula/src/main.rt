@@ -7,8 +7,9 @@ ghost use Rattle.paper.specs.Sizes.{number_most, code_most};
 ghost use Rattle.lent.specs.Over.{over};
 ghost use Rattle.formula.specs.Formula.{told, formula, line_most};
 
-use libc::{STDIN_FILENO, STDOUT_FILENO};
 use paper::{Given, Limit};
+use std::io;
+use std::io::Write;
 
 // "only 65,536 bytes are read", as by the program of document 01
 const READS: usize = 65_536;
@@ -46,10 +47,10 @@ fn answer(input: &[u8], line: &mut [u8]) -> usize
     }
 }
 
-fn main() {
+fn main(rt: HostRuntime) -> io::Result<()> {
     let mut input = [0u8; READS];
     let mut line = [0u8; LINE];
-    let read = io::read_full(STDIN_FILENO, &mut input);
+    let read = streams::read_full(&mut rt.stdin(), &mut input)?;
     let length = answer(&input[..read], &mut line);
-    io::write_all(STDOUT_FILENO, &line[..length]);
+    io::writer(&rt).write_all(&line[..length])
 }
