@@ -69,7 +69,7 @@ days_before y k h = by_month (ltb 1 k) refl
 evenly_within : (d : ℕ) → (evenly ((12 * d + 6) / 367) ≤ d) × (d < evenly (suc ((12 * d + 6) / 367)))
 evenly_within d = (omega arith, omega arith)
 
--- the n_th day of the year, from 0, is in month k
+-- the n-th day of the year, from 0, is in month k
 pub record InMonth (y n k : ℕ) : Type 0 where
   pub of_twelve : k < 12
   pub from : days_in k (month_lengths y) ≤ n

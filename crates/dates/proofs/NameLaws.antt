@@ -22,7 +22,7 @@ twelve_names : length month_names ≡ 12
 unfolding month_names
 twelve_names = refl
 
--- the k_th month is asked after
+-- the k-th month is asked after
 abbrev pub asked : Bytes → ℕ → Bytes → Option (ℕ × Bytes)
 asked name k rest = month_called name (k + 1) (drop k month_names) rest
 

@@ -4,7 +4,6 @@ use mathlib.Core.Path.{◌≡◌, refl, sym, ◌∙◌, ap}
 use mathlib.Core.Bool.{Bool, true, false}
 use mathlib.Core.List.{[], ◌∷◌, ◌++◌}
 use mathlib.Core.Option.{Option, none, some}
-use borrow.Author.Rules.{zero≤}
 use native.Mathlib.Numerals.{sub-one}
 use native.Mathlib.Omega.{arith}
 use lib.ListN.{length, take, drop, get_or, set, length-append}
@@ -44,19 +43,19 @@ name_laid held last month h k e =
     e ∙ rw (long, part_at (month - 1) (omega arith), sub-one)
 
 -- the answers of `year_text`
-pub year_none : (held : Bytes) (at n s year : ℕ) → n ≡ 0 → (0 ≡ length (year_text n s year)) × (held ≡ over held at (year_text n s year))
+pub year_none : (held : Bytes) (at n s year : ℕ) → n ≡ 0 → record { value : 0 ≡ length (year_text n s year); out_after : held ≡ over held at (year_text n s year) }
 unfolding year_text
-year_none held at n s year h = rw h (refl, sym (over_none held at))
+year_none held at n s year h = rw h (record { value = refl; out_after = sym (over_none held at) })
 
 pub year_laid : (held last : Bytes) (at n s year : ℕ) → at + 5 ≤ length held → n ≤ 4 → (n ≡ 0 → ⊥)
     → last ≡ take (at + 1) (set held at s) ++ digits n year ++ drop (at + 1 + n) (set held at s)
-    → (n + 1 ≡ length (year_text n s year)) × (last ≡ over held at (year_text n s year))
+    → record { value : n + 1 ≡ length (year_text n s year); out_after : last ≡ over held at (year_text n s year) }
 unfolding year_text
 year_laid held last at zero s year h k nz e = absurd (nz refl)
 year_laid held last at (suc n) s year h k nz e =
     let both : Laid (s ∷ [] ++ digits (suc n) year) held (at + 1 + suc n) last at
     = laid_behind (laid_one held at s refl (omega arith)) (laid_at (e ∙ digits_laid (set held at s) (at + 1) (suc n) year) (rw (length_digits (suc n) year))) (omega arith) in
-    (omega (arith, both.place), both.bytes)
+    record { value = omega (arith, both.place); out_after = both.bytes }
 
 pub year_most : (n s year : ℕ) → n ≤ 4 → length (year_text n s year) ≤ 5
 unfolding year_text
@@ -70,21 +69,21 @@ name_long k h = ap length (name_at k h)
 pub lettered_laid : (held one two last : Bytes) (n r : ℕ) (d : Date) → 1 ≤ d.month → d.month ≤ 12
     → one ≡ over held 0 (digits 2 d.day ++ 32 ∷ []) → two ≡ over one 3 (get_or month_names (pred d.month) [])
     → last ≡ over two 6 (year_text n 32 d.year) → r ≡ length (year_text n 32 d.year)
-    → (r + 6 ≡ length (date_text n none d)) × (last ≡ over held 0 (date_text n none d))
+    → record { value : r + 6 ≡ length (date_text n none d); out_after : last ≡ over held 0 (date_text n none d) }
 unfolding date_text digits
 lettered_laid held one two last n r d m m' p q t e =
     let name = name_long (pred d.month) (omega arith) in
-    let all : Laid (date_text n none d) held (r + 6) last 0 = laid_behind (laid_behind (laid_at p refl) (laid_at {end = 6} q (omega arith)) zero≤) (laid_at t (omega arith)) zero≤ in
-    (omega (arith, all.place), all.bytes)
+    let all : Laid (date_text n none d) held (r + 6) last 0 = laid_behind (laid_behind (laid_at p refl) (laid_at {end = 6} q (omega arith)) (omega arith)) (laid_at t (omega arith)) (omega arith) in
+    record { value = omega (arith, all.place); out_after = all.bytes }
 
 pub numbered_laid : (held one two last : Bytes) (n s r : ℕ) (d : Date)
     → one ≡ over held 0 (digits 2 d.month ++ s ∷ []) → two ≡ take 3 one ++ digits 2 d.day ++ drop (3 + 2) one
     → last ≡ over two 5 (year_text n s d.year) → r ≡ length (year_text n s d.year)
-    → (r + 5 ≡ length (date_text n (some s) d)) × (last ≡ over held 0 (date_text n (some s) d))
+    → record { value : r + 5 ≡ length (date_text n (some s) d); out_after : last ≡ over held 0 (date_text n (some s) d) }
 unfolding date_text digits
 numbered_laid held one two last n s r d p q t e =
-    let all : Laid (date_text n (some s) d) held (r + 5) last 0 = laid_behind (laid_behind (laid_at p refl) (laid_at (q ∙ digits_laid one 3 2 d.day) refl) zero≤) (laid_at t (omega arith)) zero≤ in
-    (omega (arith, all.place), all.bytes)
+    let all : Laid (date_text n (some s) d) held (r + 5) last 0 = laid_behind (laid_behind (laid_at p refl) (laid_at (q ∙ digits_laid one 3 2 d.day) refl) (omega arith)) (laid_at t (omega arith)) (omega arith) in
+    record { value = omega (arith, all.place); out_after = all.bytes }
 
 -- what a day in its range is, and what is refused: 10 alone
 pub data Reached : Res ℕ → Type 0 where
@@ -124,15 +123,15 @@ date_month day d e = let p = calendar_parts (date_of day) (date_of_in_calendar d
 
 -- the answers of `number_dated`
 pub dated_refused : (held : Bytes) (n : ℕ) (s : Option ℕ) (x : Number) (r : Ranged) {k m : ℕ} → r ≡ ranged_of (ranged_day x) → r ≡ Ranged.Refused k
-    → m ≡ ranged_refusal r → (Refused m ≡ given_of (dated_text n s (ranged_day x))) × (held ≡ written held (dated_text n s (ranged_day x)))
+    → m ≡ ranged_refusal r → record { value : Refused m ≡ given_of (dated_text n s (ranged_day x)); out_after : held ≡ written held (dated_text n s (ranged_day x)) }
 unfolding dated_text given_of written
-dated_refused held n s x r e f k = rw (day_refused (ranged_day x) e f k) (refl, refl)
+dated_refused held n s x r e f k = rw (day_refused (ranged_day x) e f k) (record { value = refl; out_after = refl })
 
 pub dated_given : (held last : Bytes) (n r : ℕ) (s : Option ℕ) (x : Number) (day : ℕ) (d : Date) → ranged_day x ≡ given day → d ≡ date_of day
     → r ≡ length (date_text n s d) → last ≡ over held 0 (date_text n s d)
-    → (Length r ≡ given_of (dated_text n s (ranged_day x))) × (last ≡ written held (dated_text n s (ranged_day x)))
+    → record { value : Length r ≡ given_of (dated_text n s (ranged_day x)); out_after : last ≡ written held (dated_text n s (ranged_day x)) }
 unfolding dated_text given_of written
-dated_given held last n r s x day d e f p q = rw (e, ← f) (ap Length p, q ∙ over_front held (date_text n s d))
+dated_given held last n r s x day d e f p q = rw (e, ← f) (record { value = ap Length p; out_after = q ∙ over_front held (date_text n s d) })
 
 -- no date is longer than a result may be
 text_most : (n : ℕ) (s : Option ℕ) (d : Date) → n ≤ 4 → 1 ≤ d.month → d.month ≤ 12 → length (date_text n s d) ≤ 11

@@ -23,12 +23,16 @@ pub record Seen (x : Option (ℕ × Bytes)) (most : ℕ) (text : Bytes) (value n
   pub small : value ≤ most
   pub inside : next ≤ length text
 
+-- what a call ensures of what it found
+abbrev pub Told : Option (ℕ × Bytes) → ℕ → Bytes → Read → Type 0
+Told x most text r = record { reads : x ≡ found text r; within : Within most text r }
+
 pub seen : {x : Option (ℕ × Bytes)} {most : ℕ} {text : Bytes} (r : Read) {value next : ℕ}
-    → (x ≡ found text r) × Within most text r → r ≡ Found value next → Seen x most text value next
+    → Told x most text r → r ≡ Found value next → Seen x most text value next
 unfolding found
 seen {x} {most} {text} r e f =
-    let w = rw f at e.1 in
-    record { reads = e.0 ∙ ap (found text) f; small = w.0; inside = w.1 }
+    let w = rw f at e.within in
+    record { reads = e.reads ∙ ap (found text) f; small = w.0; inside = w.1 }
 
 -- and one that was refused: nothing is read, and its number is 12
 pub unseen : {x : Option (ℕ × Bytes)} (text : Bytes) (r : Read) {n : ℕ} → x ≡ found text r → r ≡ Read.Refused n → x ≡ none

@@ -2,6 +2,7 @@
 // Every contract is an equality with a definition of crates/paper/specs/Dates.antt or TypedDates.antt, for all inputs that it takes.
 // Year and month of a day come from a division and one comparison; no loop runs over years or days.
 #![tactic(auto)]
+
 mod calendar;
 pub mod printing;
 pub mod typing;

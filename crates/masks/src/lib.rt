@@ -2,6 +2,7 @@
 // A text is made from its right end in a small buffer of its own; its length decides 14, and it goes out once, with its fill.
 // Every contract is an equality with a definition of crates/paper/specs/Masks.antt, refusals included.
 #![tactic(auto)]
+
 ghost use Rattle.std.proofs.Math.Option.{some};
 ghost use Rattle.std.specs.Prelude.{◌≡◌, ◌≤◌, length};
 ghost use Rattle.paper.specs.Sizes.{entry_most, number_most};

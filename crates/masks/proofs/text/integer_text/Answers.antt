@@ -1,0 +1,25 @@
+-- `text::integer_text` meets its contract. The invariant: the last `count` digits are laid, with their commas, and `rest` is what stands
+-- before them. The measure is `rest`.
+use native.Mathlib.Omega.{arith}
+use Rattle.masks.proofs.GroupLaws.{Turned, turned_none, turned_room, turned_again, turned_all}
+use Rattle.masks.proofs.text.integer_text.Goals as goal
+
+pub loop-rest-init : goal.loop-rest-init
+loop-rest-init c = turned_none _ _ _ _ c.requires.0
+
+pub put_when-place-requires : goal.put_when-place-requires
+put_when-place-requires c =
+    let l = c.loop-rest in
+    omega (arith, turned_room l.invariant (omega arith) (omega arith), l.invariant.laid.place)
+
+pub put-place-requires-in-loop-rest : goal.put-place-requires-in-loop-rest
+put-place-requires-in-loop-rest c =
+    let l = c.loop-rest in
+    omega (arith, turned_room l.invariant (omega arith) (omega arith), l.invariant.laid.place, c.put_when-place.ensures.place)
+
+pub loop-rest-preserved : goal.loop-rest-preserved
+loop-rest-preserved c =
+    turned_again c.loop-rest.invariant (omega arith) (omega arith) (omega arith) c.put_when-place.ensures c.put-place-in-loop-rest.ensures
+
+pub returns : goal.returns
+returns c = turned_all c.loop-rest.invariant c.loop-rest-test.false (omega arith) c.put-place.ensures
