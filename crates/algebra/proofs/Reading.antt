@@ -64,9 +64,9 @@ finds_gives p = record { at = λ bs h. present (p, h) }
 finds_fails : {A : Type 0} {P : A → Type 0} → Finds P fails
 finds_fails = record { at = λ bs h. absent }
 
-finds_ahead : {A : Type 0} {P : A → Type 0} {p : ℕ → Bool} {k : ℕ → Reader A} {other : Reader A} → ((b : ℕ) → Finds P (k b)) → Finds P other
+finds_ahead : {A : Type 0} {P : A → Type 0} (p : ℕ → Bool) {k : ℕ → Reader A} {other : Reader A} → ((b : ℕ) → Finds P (k b)) → Finds P other
     → Finds P (ahead p k other)
-finds_ahead {A} {P} {p} {k} {other} f g = record { at = go }
+finds_ahead {A} {P} p {k} {other} f g = record { at = go }
   where
     either : (t : Bool) (b : ℕ) (bs : Bytes) → Unmarked (b ∷ bs) → Found P (if t then k b bs else other (b ∷ bs))
     either true b bs (and_all h hs) = (f b).at bs hs
@@ -86,7 +86,7 @@ finds_if_there {A} {B} {P} {Q} {r} {k} {other} f g h = record { at = λ bs c. go
 
 finds_this : (c : ℕ) → Finds (λ _. Unit {0}) (this c)
 unfolding this
-finds_this c = finds_ahead (λ _. finds_gives tt) finds_fails
+finds_this c = finds_ahead _ (λ _. finds_gives tt) finds_fails
 
 -- The readers of an A code.
 
@@ -149,7 +149,7 @@ module _ {inside : Reader Expression} (finds : Finds FineExpression inside) wher
 
   finds_base : Finds FineOperand (base inside)
   unfolding base
-  finds_base = finds_ahead (λ _. finds_enclosed) (finds_ahead (λ _. finds_remainder) finds_fetch)
+  finds_base = finds_ahead _ (λ _. finds_enclosed) (finds_ahead _ (λ _. finds_remainder) finds_fetch)
 
   finds_bracket : (x : Operand) → FineOperand x → Finds FineOperand (bracket inside x)
   unfolding bracket operand_elms bytes elm operator_elm choose bracket_elm is_digit any is_mark
@@ -160,7 +160,7 @@ module _ {inside : Reader Expression} (finds : Finds FineExpression inside) wher
   finds_brackets : (fuel : ℕ) (x : Operand) → FineOperand x → Finds FineOperand (brackets inside fuel x)
   unfolding brackets
   finds_brackets zero x p = finds_gives p
-  finds_brackets (suc fuel) x p = finds_ahead (λ _. finds_then (finds_bracket x p) (finds_brackets fuel)) (finds_gives p)
+  finds_brackets (suc fuel) x p = finds_ahead _ (λ _. finds_then (finds_bracket x p) (finds_brackets fuel)) (finds_gives p)
 
   finds_operand : Finds FineOperand (operand inside)
   unfolding operand

@@ -35,29 +35,29 @@ use Rattle.algebra.proofs.Laying.{set_then}
 
 -- an answer, and the front of the text it is in
 abbrev pub Told : Res Bytes → Bytes → Given → Type 0
-Told x text r = (r ≡ given_of x) × (take (length_in r) text ≡ answer_of x)
+Told x text r = record { value : r ≡ given_of x; text_after : take (length_in r) text ≡ answer_of x }
 
 pub told_refused : {x : Res Bytes} {n : ℕ} (text : Bytes) → x ≡ refused n → Told x text (Given.Refused n)
 unfolding given_of length_in
-told_refused text e = rw e (refl, refl)
+told_refused text e = rw e (record { value = refl; text_after = refl })
 
 pub told_given : {x : Res Bytes} {bs : Bytes} {n : ℕ} (text : Bytes) → x ≡ given bs → n ≡ length bs → take n text ≡ bs → Told x text (Given.Length n)
 unfolding given_of length_in
-told_given text e f g = rw e (ap Given.Length f, g)
+told_given text e f g = rw e (record { value = ap Given.Length f; text_after = g })
 
 -- what is told once the answer is taken apart
 pub refused_is : (x : Res Bytes) (text : Bytes) {r : Given} {n : ℕ} → Told x text r → r ≡ Given.Refused n → x ≡ refused n
 unfolding given_of
-refused_is (given bs) text t e = let z : ◌≡◌ {A = ℕ} 0 1 = cc t.0 in absurd (omega arith)
-refused_is (refused n) text t e = cc t.0
+refused_is (given bs) text t e = let z : ◌≡◌ {A = ℕ} 0 1 = cc t.value in absurd (omega arith)
+refused_is (refused n) text t e = cc t.value
 
 pub given_is : (x : Res Bytes) (text : Bytes) {r : Given} {n : ℕ} → Told x text r → r ≡ Given.Length n → (x ≡ given (take n text)) × (n ≤ length text)
 unfolding given_of length_in
 given_is (given bs) text {r} {n} t e =
-    let f : length bs ≡ n = cc t.0 in
-    let g : take n text ≡ bs = sym (ap (λ (q : Given). take (length_in q) text) e) ∙ t.1 in
+    let f : length bs ≡ n = cc t.value in
+    let g : take n text ≡ bs = sym (ap (λ (q : Given). take (length_in q) text) e) ∙ t.text_after in
     (ap given (sym g), omega (arith, length-take n text, ap length g))
-given_is (refused k) text t e = let z : ◌≡◌ {A = ℕ} 0 1 = cc t.0 in absurd (omega arith)
+given_is (refused k) text t e = let z : ◌≡◌ {A = ℕ} 0 1 = cc t.value in absurd (omega arith)
 
 algebra_of : (rest : Bytes) → algebra (ch "A" ∷ rest) ≡ expression (length rest) rest
 unfolding algebra paper.this
@@ -177,15 +177,15 @@ lawful_either text (faulty k m) e r f whole n g h =
 pub shown_lawful : (code text : Bytes) (n : ℕ) {r : Given} → spelt_out code ≡ given (take n text) → n ≤ length text → r ≡ given_of (lawful_text (take n text))
     → Told (shown_text code) text r
 shown_lawful code text n {r} e h f =
-    rw (shown_is code e) (f, lawful_either (take n text) (check (take n text)) refl r f text n refl h)
+    rw (shown_is code e) (record { value = f; text_after = lawful_either (take n text) (check (take n text)) refl r f text n refl h })
 
 -- An answer and its output: the answer and then zeros, zeros alone on a refusal.
 abbrev pub Handed : ℕ → Res Bytes → Given → Bytes → Type 0
-Handed room x r out = (r ≡ given_of x) × (out ≡ buffer room (answer_of x))
+Handed room x r out = record { value : r ≡ given_of x; out_after : out ≡ buffer room (answer_of x) }
 
 pub handed_refused : (room : ℕ) {x : Res Bytes} {n : ℕ} {out : Bytes} → x ≡ refused n → out ≡ replicate room 0 → Handed room x (Given.Refused n) out
 unfolding given_of buffer
-handed_refused room e f = rw e (refl, f ∙ ap (λ (n : ℕ). replicate n 0) (sym (sub-zero room)))
+handed_refused room e f = rw e (record { value = refl; out_after = f ∙ ap (λ (n : ℕ). replicate n 0) (sym (sub-zero room)) })
 
 pub handed_short : (text : Bytes) {out : Bytes} (room : ℕ) → room < length text → out ≡ replicate room 0
     → Handed room (fitted room (given text)) (Given.Refused short_output) out
@@ -201,7 +201,10 @@ handed_whole text before {out} h f =
     let none_left : length before ≤ length (text ++ zeros) = omega (arith, length-append text zeros, length-replicate {A = ℕ} (length before - length text) 0)
     in
     rw (le-leb (length text) (length before) h)
-    (refl, f ∙ over_behind before text zeros (length text) refl ∙ rw (drop_of_length-le before none_left) (append-nil (text ++ zeros)))
+    (record {
+      value = refl;
+      out_after = f ∙ over_behind before text zeros (length text) refl ∙ rw (drop_of_length-le before none_left) (append-nil (text ++ zeros));
+    })
 
 pub show_refused : (code : Bytes) (room : ℕ) {n : ℕ} {out : Bytes} → shown_text code ≡ refused n → out ≡ replicate room 0
     → Handed room (show code room) (Given.Refused n) out
@@ -215,7 +218,8 @@ show_given code text room e = rw e
 -- what was handed over stands in front of the output
 pub handed_told : (room : ℕ) (x : Res Bytes) {r : Given} {out : Bytes} → Handed room x r out → Told x out r
 unfolding given_of length_in buffer
-handed_told room x {r} {out} h = (h.0, rw h.1 (ap (λ (q : Given). take (length_in q) (buffer room (answer_of x))) h.0 ∙ front x))
+handed_told room x {r} {out} h =
+    record { value = h.value; text_after = rw h.out_after (ap (λ (q : Given). take (length_in q) (buffer room (answer_of x))) h.value ∙ front x) }
   where
     front : (y : Res Bytes) → take (length_in (given_of y)) (buffer room (answer_of y)) ≡ answer_of y
     front (given bs) = take_at bs (replicate (room - length bs) 0) (length bs) refl

@@ -80,7 +80,7 @@ fn fetch(code: &[u8], at: usize, text: &mut [u8], len: usize) -> Shown
 }
 
 // An expression and the byte behind it.
-#[cycle(base_bracket_expression_operand_operation_pair_remainder_up_to)]
+#[cycle(expression_cycle)]
 fn up_to(code: &[u8], at: usize, text: &mut [u8], len: usize, close: u8) -> Shown
     requires { Room code.now at text.old len × (close < segment_mark) }
     ensures { (depth : ℕ) → length code.now ≤ at + depth
@@ -101,7 +101,7 @@ fn up_to(code: &[u8], at: usize, text: &mut [u8], len: usize, close: u8) -> Show
 }
 
 // `x,y` and the byte that closes them.
-#[cycle(base_bracket_expression_operand_operation_pair_remainder_up_to)]
+#[cycle(expression_cycle)]
 fn pair(code: &[u8], at: usize, text: &mut [u8], len: usize, close: u8) -> Shown
     requires { Room code.now at text.old len × (close < segment_mark) }
     ensures { (depth : ℕ) → length code.now ≤ at + depth
@@ -115,7 +115,7 @@ fn pair(code: &[u8], at: usize, text: &mut [u8], len: usize, close: u8) -> Shown
 }
 
 // The rest of `R(x,y)`.
-#[cycle(base_bracket_expression_operand_operation_pair_remainder_up_to)]
+#[cycle(expression_cycle)]
 fn remainder(code: &[u8], at: usize, text: &mut [u8], len: usize) -> Shown
     requires { Room code.now at text.old len }
     ensures { (depth : ℕ) → length code.now ≤ at + depth
@@ -135,7 +135,7 @@ fn remainder(code: &[u8], at: usize, text: &mut [u8], len: usize) -> Shown
 }
 
 // The rest of `[y,z]`, and its elm.
-#[cycle(base_bracket_expression_operand_operation_pair_remainder_up_to)]
+#[cycle(expression_cycle)]
 fn bracket(code: &[u8], at: usize, text: &mut [u8], len: usize) -> Shown
     requires { Room code.now at text.old (len + 3) }
     ensures { (from depth : ℕ) → from < at → length code.now ≤ at + depth
@@ -152,7 +152,7 @@ fn bracket(code: &[u8], at: usize, text: &mut [u8], len: usize) -> Shown
 }
 
 // An operand without its brackets, by the byte ahead.
-#[cycle(base_bracket_expression_operand_operation_pair_remainder_up_to)]
+#[cycle(expression_cycle)]
 fn base(code: &[u8], at: usize, text: &mut [u8], len: usize) -> Shown
     requires { Room code.now at text.old len }
     ensures { (depth : ℕ) → length code.now ≤ at + suc depth
@@ -168,7 +168,7 @@ fn base(code: &[u8], at: usize, text: &mut [u8], len: usize) -> Shown
 }
 
 // An operand, and any number of `[y,z]` behind it.
-#[cycle(base_bracket_expression_operand_operation_pair_remainder_up_to)]
+#[cycle(expression_cycle)]
 fn operand(code: &[u8], at: usize, text: &mut [u8], len: usize) -> Shown
     requires { Room code.now at text.old len }
     ensures { (depth : ℕ) → length code.now ≤ at + suc depth
@@ -188,7 +188,7 @@ fn operand(code: &[u8], at: usize, text: &mut [u8], len: usize) -> Shown
 }
 
 // The operand behind an operator, and the operator straight after it.
-#[cycle(base_bracket_expression_operand_operation_pair_remainder_up_to)]
+#[cycle(expression_cycle)]
 fn operation(code: &[u8], at: usize, text: &mut [u8], len: usize, byte: u8) -> Shown
     requires { Room code.now at text.old (len + 3) }
     ensures { (from depth : ℕ) (o : Operator) → from < at → o.in_F ≡ byte ∷ [] → length code.now ≤ at + suc depth
@@ -204,7 +204,7 @@ fn operation(code: &[u8], at: usize, text: &mut [u8], len: usize, byte: u8) -> S
 }
 
 // Operands with operators between, "strictly left to right".
-#[cycle(base_bracket_expression_operand_operation_pair_remainder_up_to)]
+#[cycle(expression_cycle)]
 pub(crate) fn expression(code: &[u8], at: usize, text: &mut [u8], len: usize) -> Shown
     requires { Room code.now at text.old len }
     ensures { (depth : ℕ) → length code.now ≤ at + depth

@@ -2,6 +2,7 @@
 // One pass over the A code, behind a test for marks: an expression holds operands, an operand in parentheses holds an expression again,
 // and each elm is laid behind the F text as soon as its operands are. Every contract is stated by the definitions of specs/.
 #![tactic(auto)]
+
 mod expressions;
 mod operators;
 
