@@ -342,6 +342,13 @@ def as_record(body, labels):
         # the parts of a pair that stands under a name
         n = len(labels)
         return lead + "record { " + "; ".join(f"{l} = {b}{'.1' * k}{'.0' if k < n - 1 else ''}" for k, l in enumerate(labels)) + " }"
+    if b.startswith("rw "):
+        # the goal is rewritten before the tuple is given
+        last = parts_of(b)[-1]
+        if not last.startswith("("):
+            return None
+        made = as_record(last, labels)
+        return made and lead + b[: b.rindex(last)] + "(" + made + ")"
     if not (b.startswith("(") and matching(b, 0) == len(b) - 1):
         return None
     parts = parts_of(b[1:-1], ",")

@@ -1,6 +1,7 @@
 // What a code other than F gives on an element (document 01, "What each code gives"): each is passed to the crate that it belongs to.
 // Every answer is written in front of the lent output, or refused with the output as it was.
 #![tactic(auto)]
+
 ghost use Rattle.std.specs.Prelude.{◌≡◌, ◌≤◌, length};
 ghost use Rattle.paper.specs.Sizes.{code_most, entry_most};
 ghost use Rattle.paper.specs.Answers.{given_of, written};
