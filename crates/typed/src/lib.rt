@@ -1,5 +1,6 @@
 // Document 01, "A typed date": the day that a text names by a code string that is exactly one D code.
 #![tactic(auto)]
+
 ghost use Rattle.std.specs.Prelude.{◌≡◌};
 ghost use Rattle.std.proofs.Math.Option.{some};
 ghost use Rattle.paper.specs.Bytes.{Bytes};

@@ -32,12 +32,11 @@ returns-in_default c =
 
 pub number_masked-requires : goal.number_masked-requires
 unfolding entry_most
-number_masked-requires c =
-    let reads = c.before.before.before.before in (
-      convertible_size (numeric c.args.e.now) (whole c.in-Number.x) (a_number c.convertible-element.ensures c.in-Number.is),
-      omega (arith, c.requires),
-      c.requires.1,
-    )
+number_masked-requires c = (
+  convertible_size (numeric c.args.e.now) (whole c.in-Number.x) (a_number c.convertible-element.ensures c.in-Number.is),
+  omega (arith, c.requires),
+  c.requires.1,
+)
 
 pub returns : goal.returns
 unfolding mask_gives

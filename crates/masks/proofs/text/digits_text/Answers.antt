@@ -17,6 +17,4 @@ integer_text-requires c =
 
 pub returns : goal.returns
 returns c =
-    let over = c.before.before.before.before in
-    let point = over.before.before.before in
     laid_as (rw c.power-over.ensures) (laid_ahead c.point_text-point.ensures c.integer_text.ensures c.requires.3)

@@ -16,29 +16,24 @@ digits_text-digits-requires c =
 
 pub put_when-sign-requires : goal.put_when-sign-requires
 put_when-sign-requires c =
-    let room : 2 ≤ c.digits_text-digits.result = let a = c.args in
+    let a = c.args in
     let suffix = c.after_digits-suffix.ensures.place in
+    let room : 2 ≤ c.digits_text-digits.result =
     omega (arith, c.requires, length_after (credit_of a.mask.credits) (whole a.y), suffix, length_pieces a.mask.commas a.mask.decimals a.y.size (omega (arith, c.requires))) in
     omega (arith, room)
 
 pub put_when-requires : goal.put_when-requires
 put_when-requires c =
-    let room : 2 ≤ c.digits_text-digits.result = let a = c.args in
-    let suffix = c.after_digits-suffix.ensures.place in
-    omega (arith, c.requires, length_after (credit_of a.mask.credits) (whole a.y), suffix, length_pieces a.mask.commas a.mask.decimals a.y.size (omega (arith, c.requires))) in
-    let sign = c.before.before.before in
-    let byte = c.sign_byte-byte.result in
-    let digits = sign.before.before.before.before.before in
     let a = c.args in
+    let suffix = c.after_digits-suffix.ensures.place in
+    let room : 2 ≤ c.digits_text-digits.result =
+    omega (arith, c.requires, length_after (credit_of a.mask.credits) (whole a.y), suffix, length_pieces a.mask.commas a.mask.decimals a.y.size (omega (arith, c.requires))) in
+    let byte = c.sign_byte-byte.result in
     omega (arith, room, c.digits_text-digits.ensures.place, length_when (a.y.negative && ltb 0 byte) byte)
 
 pub returns : goal.returns
 unfolding mask_of
 returns c =
-    let dollar = c.before.before in
-    let sign = dollar.before.before.before.before in
-    let digits = sign.before.before.before.before.before in
-    let suffix = digits.before.before.before.before in
     let a = c.args in
     laid_text (mask_of a.mask) (whole a.y) c.sign_byte-byte.result c.sign_byte-byte.ensures c.after_digits-suffix.ensures c.digits_text-digits.ensures
     c.put_when-sign.ensures
