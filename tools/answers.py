@@ -352,6 +352,8 @@ def as_record(body, labels):
     if not (b.startswith("(") and matching(b, 0) == len(b) - 1):
         return None
     parts = parts_of(b[1:-1], ",")
+    while len(parts) < len(labels) and parts[-1].startswith("(") and matching(parts[-1], 0) == len(parts[-1]) - 1 and len(parts_of(parts[-1][1:-1], ",")) > 1:
+        parts[-1:] = parts_of(parts[-1][1:-1], ",")
     if len(parts) < len(labels):
         return None
     if len(parts) > len(labels):

@@ -2,12 +2,13 @@
 // A table has a case to a line, its fields parted by a byte; long elements and marks may be spelled in braces, so that a table is plain text.
 // Every contract is an equality with a definition of specs/Tables.antt.
 #![tactic(auto)]
+
 pub mod lines;
 
 ghost use Rattle.std.specs.Prelude.{◌≡◌, ◌++◌, map, true, ◌+◌, ◌≤◌, ◌<◌, min, length, drop, get_or, replicate, ltb};
 ghost use Rattle.std.proofs.Math.Option.{none};
 ghost use Rattle.paper.specs.Bytes.{if◌then◌else◌};
-ghost use Rattle.io.specs.Counts.{IsPrefixLen};
+ghost use Rattle.std.specs.Counts.{IsPrefixLen};
 ghost use Rattle.lent.specs.Scan.{upto, piece};
 ghost use Rattle.cases.specs.Tables.{shown, shown_byte, meant, laid, behind, digit, number, braced, unbraced, spelled};
 

@@ -1,6 +1,6 @@
 // The fields of a case, parted by bars and counted from 0, and the buffers that it is run with.
 ghost use Rattle.std.specs.Prelude.{◌≡◌, ◌+◌, ◌≤◌, min, length, drop, replicate};
-ghost use Rattle.io.specs.Counts.{IsPrefixLen};
+ghost use Rattle.std.specs.Counts.{IsPrefixLen};
 ghost use Rattle.paper.specs.Sizes.{record_most};
 ghost use Rattle.cases.specs.Tables.{in_field, typed_part, number_or, laid, behind, spelled, all_zeros};
 
