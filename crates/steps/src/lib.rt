@@ -1,6 +1,7 @@
 // One step of an F code (document 01, "Steps").
 // Every statement is an equality with what crates/paper defines of the step.
 #![tactic(auto)]
+
 mod loading;
 pub mod stepping;
 

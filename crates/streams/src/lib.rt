@@ -1,7 +1,7 @@
 // What the programs read by: a buffer filled from a reader, as far as its bytes go.
 #![tactic(auto)]
 ghost use Rattle.std.specs.Prelude.{IfOk};
-ghost use Rattle.io.specs.Counts.{IsPrefixLen};
+ghost use Rattle.std.specs.Counts.{IsPrefixLen};
 
 use std::io;
 use std::io::Read;
