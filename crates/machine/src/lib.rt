@@ -2,6 +2,7 @@
 // A run answers the steps then counted, or its refusal and the steps counted before it; its answer stands in the element's slot.
 // Every statement is an equality with the run that crates/paper defines.
 #![tactic(auto)]
+
 pub mod running;
 
 use codes::Conversion;

@@ -1,0 +1,17 @@
+use borrow.Author.Rules.{rules}
+use mathlib.Core.Path.{◌≡◌, refl, ◌∙◌}
+use Prim.Native.Nat.{◌-◌}
+use native.Mathlib.Omega.{arith}
+use lib.ListN.{length}
+use Rattle.machine.proofs.Parts.{Part, part_first, part_ends, part_well, part_short, part_stops, part_last, part_more}
+use Rattle.machine.proofs.running.run_parts.Given as goal
+
+abbrev pub invariant-loop-counted : goal.invariant-loop-counted
+invariant-loop-counted l =
+    Part l.item l.string l.place l.meter l.initial.scratch l.initial.lens l.at l.steps l.scratch l.lens l.work
+    × (length l.scratch ≡ length l.initial.scratch)
+    × (length l.lens ≡ length l.initial.lens)
+    × (length l.work ≡ length l.initial.work)
+
+abbrev pub decreases-loop-counted : goal.decreases-loop-counted
+decreases-loop-counted l = length l.string - l.at

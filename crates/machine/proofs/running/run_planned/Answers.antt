@@ -1,0 +1,27 @@
+-- `machine::running::run_planned` meets its contract: the one step of a single code, or the codes in their turn.
+use borrow.Author.Rules.{rules}
+use mathlib.Core.Path.{ap, sym, ◌∙◌}
+use Rattle.paper.specs.Bytes.{Bytes}
+use Rattle.paper.specs.Steps.{Run}
+use Rattle.machine.specs.Runs.{metered}
+use Rattle.machine.proofs.Turns.{runs_as}
+use Rattle.machine.proofs.Plans.{plan_within, plan_run}
+use Rattle.machine.proofs.running.run_planned.Goals as goal
+
+pub single-requires : goal.single-requires
+single-requires c = (
+  c.requires.lent.0.slotted,
+  c.requires.lent.0.work_fits,
+  c.requires.lent.1,
+  plan_within c.args.string.now c.requires.accepted.0 c.requires.accepted.1 (sym c.in-Single.is ∙ c.requires.lent.2),
+)
+
+pub run_parts-requires : goal.run_parts-requires
+run_parts-requires c = (c.requires.lent.0, c.requires.lent.1, c.requires.accepted.0, c.requires.accepted.1)
+
+pub returns-in-Single : goal.returns-in-Single
+returns-in-Single c =
+    runs_as
+    (ap (λ (r : Run Bytes). metered c.args.meter r)
+    (plan_run c.args.string.now c.requires.accepted.0 c.requires.accepted.1 (sym c.in-Single.is ∙ c.requires.lent.2) _ _ _))
+    c.single.ensures
