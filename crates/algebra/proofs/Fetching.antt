@@ -7,8 +7,6 @@ use mathlib.Core.List.{[], ◌∷◌}
 use mathlib.Core.Option.{none, some}
 use lib.ListN.{length, take, drop, length-drop}
 use Rattle.paper.specs.Bytes.{Bytes, ch}
-use Rattle.paper.specs.Numbers.{Binary}
-use Rattle.paper.specs.Codes.{Elm}
 use Rattle.paper.specs.Grammar as paper
 use Rattle.codes.specs.Meaning.{operand_of, elm_of}
 use Rattle.codes.specs.declared.Elm as code

@@ -3,7 +3,6 @@ use Prim.Native.Nat.{◌-◌}
 use mathlib.Core.Path.{◌∙◌, ap}
 use native.Mathlib.Omega.{arith}
 use lib.ListN.{length, replicate}
-use borrow.Author.Rules.{rules}
 use Rattle.paper.specs.Bytes.{Bytes}
 use Rattle.lent.specs.Over.{over}
 use Rattle.algebra.proofs.Telling.{handed_short, handed_whole}

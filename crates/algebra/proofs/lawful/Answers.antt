@@ -1,6 +1,5 @@
 -- `algebra::lawful` meets its contract: as the check says.
 use mathlib.Core.Path.{sym, ap}
-use borrow.Author.Rules.{rules}
 use Rattle.paper.specs.Answers.{given_of}
 use Rattle.algebra.proofs.Telling.{lawful_accepted, lawful_refused}
 use Rattle.algebra.proofs.lawful.Goals as goal

@@ -1,13 +1,8 @@
 -- `algebra::spelt_out` meets its contract: the tests in their order, and the elms behind an `F`.
-use Prim.Native.Nat.{◌+◌, ◌≤◌}
-use mathlib.Core.Path.{◌≡◌, sym, ◌∙◌}
-use mathlib.Core.Bool.{false}
+use mathlib.Core.Path.{sym, ◌∙◌}
 use native.Mathlib.Omega.{arith}
-use lib.ListN.{length, drop, length-set, length-drop}
+use lib.ListN.{length-set, length-drop}
 use lib.Dec.{lit<}
-use borrow.Author.Rules.{rules}
-use Rattle.paper.specs.Bytes.{any}
-use Rattle.paper.specs.Sizes.{is_mark, code_most}
 use Rattle.algebra.proofs.Ahead.{hit}
 use Rattle.algebra.proofs.Laying.{lays_upto, lays_unread}
 use Rattle.algebra.proofs.Telling.{told_refused, told_given, spelt_long, spelt_marked, spelt_first, spelt_unread, spelt_more, spelt_whole, text_laid}

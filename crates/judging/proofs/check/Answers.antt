@@ -1,5 +1,4 @@
 -- `check` meets its contract: over 512 bytes, empty, or codes.
-use borrow.Author.Rules.{rules}
 use Rattle.judging.proofs.Turns.{check_long, check_empty, check_parts, verdicts, verdict_faulty, verdict_empty}
 use Rattle.judging.proofs.check.Goals as goal
 

@@ -1,18 +1,17 @@
 -- The proof of the cycle of calls of an expression and its operands: "An expression holds operands, and an operand in parentheses holds an expression again."
-use Prim.Native.Nat.{ℕ, ◌+◌, ◌≤◌}
-use mathlib.Core.Path.{◌≡◌, refl, ◌∙◌}
+use Prim.Native.Nat.{◌+◌, ◌≤◌}
+use mathlib.Core.Path.{refl, ◌∙◌}
 use mathlib.Core.List.{[], ◌∷◌}
 use native.Mathlib.Omega.{arith}
 use lib.ListN.{length, length-set}
 use lib.Dec.{lit<}
-use borrow.Author.Rules.{rules}
 use Rattle.algebra.specs.Expressions.{elms_in, operand_elms}
 use Rattle.algebra.specs.Grammar.{brackets, operations}
-use Rattle.algebra.specs.Grammar.{operand as read_operand, expression as read_expression, pair as read_pair}
-use Rattle.algebra.specs.Laying.{Laid, laid, unread, pair_elms, bracket_elms, operation_elms}
+use Rattle.algebra.specs.Grammar.{expression as read_expression}
+use Rattle.algebra.specs.Laying.{laid, unread, pair_elms, bracket_elms, operation_elms}
 use Rattle.algebra.proofs.Ahead.{hit}
 use Rattle.algebra.proofs.Laying.{lays_upto, lays_none, lays_from, room_len, room_on, room_spare, set_behind}
-use Rattle.algebra.proofs.Going.{Going, going_unread, going_stops, to_go, to_go_less}
+use Rattle.algebra.proofs.Going.{going_unread, going_stops, to_go_less}
 use Rattle.algebra.proofs.Signs.{signs_missing, signs_operator}
 use Rattle.algebra.proofs.Lines.{up_to_none, up_to_laid, up_to_stray, pair_none, pair_lays, base_by_parenthesis, base_by_remainder, base_fetch}
 use Rattle.algebra.proofs.Lines.{remainder_stray, remainder_none, remainder_lays, bracket_lays, brackets_stop, operand_going, operand_on}

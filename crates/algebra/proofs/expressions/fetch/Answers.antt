@@ -1,11 +1,8 @@
 -- `expressions::fetch` meets its contract: what F's reader of elms ate is copied.
-use Prim.Native.Nat.{◌-◌, ◌≤◌, ◌<◌}
-use mathlib.Core.Path.{◌≡◌, sym, ◌∙◌}
-use mathlib.Core.Option.{some}
+use Prim.Native.Nat.{◌-◌}
+use mathlib.Core.Path.{sym, ◌∙◌}
 use native.Mathlib.Omega.{arith}
-use lib.ListN.{length}
 use Rattle.lent.proofs.Laws.{length_from}
-use Rattle.grammar.specs.Reading.{elm}
 use Rattle.readers.proofs.Answering.{read_is}
 use Rattle.grammar.proofs.Answering.{elms}
 use Rattle.algebra.specs.Laying.{laid, unread}

@@ -1,5 +1,4 @@
 -- `expressions::fetched` meets its contract, case by case.
-use borrow.Author.Rules.{rules}
 use Rattle.algebra.specs.Laying.{fetches}
 use Rattle.algebra.proofs.expressions.fetched.Goals as goal
 

@@ -1,5 +1,4 @@
 -- `expressions::fetches` meets its contract, case by case.
-use borrow.Author.Rules.{rules}
 use Rattle.algebra.specs.Laying.{fetches}
 use Rattle.algebra.proofs.expressions.fetches.Goals as goal
 

@@ -1,7 +1,6 @@
 -- `expressions::sign` meets its contract: two bytes are set, one behind the other.
 use mathlib.Core.Path.{refl}
 use native.Mathlib.Omega.{arith}
-use borrow.Author.Rules.{rules}
 use lib.ListN.{length-set}
 use Rattle.algebra.proofs.Laying.{two_set}
 use Rattle.algebra.proofs.expressions.sign.Goals as goal

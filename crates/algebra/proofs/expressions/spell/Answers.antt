@@ -1,6 +1,5 @@
 -- `expressions::spell` meets its contract: a byte is set, and the spelling copied behind it.
 use mathlib.Core.Path.{refl, ◌∙◌}
-use borrow.Author.Rules.{rules}
 use lib.ListN.{length-set}
 use Rattle.algebra.proofs.Laying.{set_then}
 use Rattle.algebra.proofs.expressions.spell.Goals as goal

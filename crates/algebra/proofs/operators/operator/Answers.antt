@@ -1,6 +1,5 @@
 -- `operators::operator` meets its contract: by the arm that the byte took.
 use mathlib.Core.Path.{refl}
-use borrow.Author.Rules.{rules}
 use lib.Dec.{lit<}
 use Rattle.paper.specs.Bytes.{bytes}
 use Rattle.paper.specs.Grammar.{choose}

@@ -1,5 +1,4 @@
 -- `operators::or_equal` meets its contract.
-use borrow.Author.Rules.{rules}
 use Rattle.algebra.proofs.Signs.{ordered_yes, ordered_no}
 use Rattle.algebra.proofs.operators.or_equal.Goals as goal
 

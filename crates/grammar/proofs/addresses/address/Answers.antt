@@ -1,5 +1,4 @@
 -- `addresses::address` meets its contract: number by number, and then the end of the text.
-use borrow.Author.Rules.{rules}
 use borrow.Author.Tests.{eq-eqb, ne_eqb}
 use Rattle.grammar.specs.Addresses.{address, address_read}
 use Rattle.readers.proofs.Answering.{nums, read_is}

@@ -1,5 +1,4 @@
 -- `addresses::another` meets its contract: a comma, and a number behind it.
-use borrow.Author.Rules.{rules}
 use Rattle.grammar.specs.Addresses.{another}
 use Rattle.readers.proofs.Answering.{nums, read_none, read_by}
 use Rattle.readers.proofs.Taken.{this_yes, this_no}

@@ -1,5 +1,4 @@
 -- `elms::attribute_elm` meets its contract.
-use borrow.Author.Rules.{rules}
 use Rattle.grammar.specs.Reading.{attribute_elm}
 use Rattle.readers.proofs.Answering.{read_some}
 use Rattle.grammar.proofs.Answering.{elms}

@@ -1,6 +1,5 @@
 -- `elms::bracket_elm` meets its contract.
 use mathlib.Core.Path.{refl, ◌∙◌}
-use borrow.Author.Rules.{rules}
 use Rattle.grammar.specs.Reading.{bracket_elm}
 use Rattle.readers.proofs.Answering.{read_some}
 use Rattle.readers.proofs.Taken.{chosen, missed}

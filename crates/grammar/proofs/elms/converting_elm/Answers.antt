@@ -1,5 +1,4 @@
 -- `elms::converting_elm` meets its contract: a code other than F, and a parenthesis.
-use borrow.Author.Rules.{rules}
 use Rattle.grammar.specs.Reading.{converting_elm}
 use Rattle.readers.proofs.Answering.{conversions, read_is, read_none, read_some, passed}
 use Rattle.readers.proofs.Taken.{this_yes, this_no}

@@ -1,5 +1,4 @@
 -- `elms::elm` meets its contract: an attribute, or another elm.
-use borrow.Author.Rules.{rules}
 use Rattle.grammar.specs.Reading.{elm}
 use Rattle.readers.proofs.Answering.{nums, read_is, read_by}
 use Rattle.grammar.proofs.Answering.{elms}

@@ -1,5 +1,4 @@
 -- `elms::literal_elm` meets its contract: the quote's place, or that there is none.
-use borrow.Author.Rules.{rules}
 use Rattle.grammar.specs.Reading.{literal_elm}
 use Rattle.readers.proofs.Answering.{quotes, read_is, read_some, passed}
 use Rattle.grammar.proofs.Answering.{elms}

@@ -1,6 +1,5 @@
 -- `elms::longer_elm` meets its contract: by the arm that the byte took.
 use mathlib.Core.Path.{refl}
-use borrow.Author.Rules.{rules}
 use Rattle.grammar.specs.Reading.{longer_elm}
 use Rattle.readers.proofs.Answering.{read_by}
 use Rattle.readers.proofs.Taken.{chosen, missed}

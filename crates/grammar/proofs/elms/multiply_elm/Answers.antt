@@ -1,6 +1,5 @@
 -- `elms::multiply_elm` meets its contract: a digit, or none.
 use mathlib.Core.Path.{◌∙◌}
-use borrow.Author.Rules.{rules}
 use Rattle.grammar.specs.Reading.{multiply_elm}
 use Rattle.readers.proofs.Answering.{nums, read_is, read_some}
 use Rattle.grammar.proofs.Answering.{elms}

@@ -1,5 +1,4 @@
 -- `elms::previous_elm` meets its contract: by the arms that the bytes took.
-use borrow.Author.Rules.{rules}
 use Rattle.grammar.specs.Reading.{previous_elm}
 use Rattle.readers.proofs.Answering.{read_none, read_some}
 use Rattle.readers.proofs.Taken.{this_yes, this_no}

@@ -1,6 +1,5 @@
 -- `elms::repeats` meets its contract: by the arms that the bytes took.
 use mathlib.Core.Path.{refl, sym}
-use borrow.Author.Rules.{rules}
 use Rattle.grammar.specs.Reading.{repeats}
 use Rattle.readers.proofs.Taken.{chosen, missed}
 use Rattle.grammar.proofs.elms.repeats.Goals as goal

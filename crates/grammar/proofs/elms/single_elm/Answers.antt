@@ -1,6 +1,5 @@
 -- `elms::single_elm` meets its contract: by the arm that the byte took.
 use mathlib.Core.Path.{refl, ◌∙◌}
-use borrow.Author.Rules.{rules}
 use Rattle.grammar.specs.Reading.{single_elm}
 use Rattle.readers.proofs.Answering.{read_none, read_some}
 use Rattle.readers.proofs.Taken.{chosen, missed}

@@ -1,6 +1,5 @@
 -- `heads::head` meets its contract: way by way.
 use mathlib.Core.Path.{sym}
-use borrow.Author.Rules.{rules}
 use borrow.Author.Tests.{eq-eqb, ne_eqb}
 use Rattle.grammar.specs.Heads.{head}
 use Rattle.readers.proofs.Answering.{conversions, read_is, read_none, read_some, passed}

@@ -4,15 +4,12 @@ use mathlib.Core.Path.{◌≡◌, sym, ap, ◌∙◌}
 use mathlib.Core.Bool.{false}
 use native.Mathlib.Omega.{arith}
 use lib.ListN.{length, take, drop, length-take}
-use borrow.Author.Rules.{rules}
 use Rattle.paper.specs.Bytes.{any}
 use Rattle.paper.specs.Sizes.{is_mark}
-use Rattle.paper.specs.Records.{split}
-use Rattle.paper.specs.Checking.{judged_all}
 use Rattle.grammar.specs.Heads.{code_end}
 use Rattle.grammar.proofs.Cuts.{end_within}
 use Rattle.judging.specs.Tallies.{steps}
-use Rattle.judging.specs.Verdicts.{fault_in, summed, verdict_of}
+use Rattle.judging.specs.Verdicts.{fault_in}
 use Rattle.judging.specs.declared.Verdict.{Verdict}
 use Rattle.judging.proofs.Tallying.{no_step, together_steps}
 use Rattle.judging.proofs.Turns.{turn_fault, turn_last, turn_more, turns_start, marks_clear, marks_stray}

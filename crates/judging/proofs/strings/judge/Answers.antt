@@ -2,7 +2,6 @@
 use mathlib.Core.Path.{◌≡◌, ap, ◌∙◌}
 use mathlib.Core.Option.{some}
 use native.Mathlib.Omega.{arith}
-use borrow.Author.Rules.{rules}
 use Rattle.grammar.specs.Heads.{head}
 use Rattle.readers.proofs.Answering.{read_is, refused_read}
 use Rattle.grammar.proofs.Answering.{heads}

@@ -1,12 +1,10 @@
 -- `strings::judge_elms` meets its contract: from elm to elm what the rest gives stays the same. An elm takes two bytes at least for its step
 -- and each of its tests, so no count wraps.
-use Prim.Native.Nat.{◌+◌, ◌*◌, ◌-◌, ◌≤◌, ◌<◌}
+use Prim.Native.Nat.{◌+◌, ◌*◌, ◌≤◌, ◌<◌}
 use mathlib.Core.Path.{◌≡◌, refl, sym, ◌∙◌}
 use mathlib.Core.Option.{some}
 use native.Mathlib.Omega.{arith}
 use lib.ListN.{length}
-use borrow.Author.Rules.{rules}
-use Rattle.grammar.specs.Heads.{elms_from}
 use Rattle.grammar.specs.Reading.{elm}
 use Rattle.readers.proofs.Answering.{read_is, refused_read}
 use Rattle.grammar.proofs.Answering.{elms}
@@ -16,8 +14,7 @@ use Rattle.paper.proofs.Weights.{weight}
 use Rattle.codes.specs.Meaning.{elm_of}
 use Rattle.codes.specs.Counting.{elm_kind_of, ElmCounted}
 use Rattle.grammar.proofs.Counted.{elm_counted}
-use Rattle.judging.specs.Tallies.{counts_in, steps, none_yet}
-use Rattle.judging.specs.Verdicts.{finished}
+use Rattle.judging.specs.Tallies.{counts_in, steps}
 use Rattle.judging.proofs.Tallying.{no_step, after_steps, after_held}
 use Rattle.judging.proofs.Sizes.{elm_sized}
 use Rattle.judging.proofs.Judging.{finished_none, finished_last, finished_more, finished_stray}

@@ -1,5 +1,4 @@
 -- `strings::stray` meets its contract: within the string the byte tells, and past it there is none.
-use borrow.Author.Rules.{rules}
 use borrow.Author.Tests.{lt-leb, le-leb}
 use Rattle.judging.specs.Verdicts.{stray}
 use Rattle.judging.proofs.strings.stray.Goals as goal

@@ -1,5 +1,4 @@
 -- `tallies::conversion_kind` meets its contract, case by case.
-use borrow.Author.Rules.{rules}
 use Rattle.codes.specs.Counting.{kind_of}
 use Rattle.judging.proofs.tallies.conversion_kind.Goals as goal
 

@@ -1,5 +1,4 @@
 -- `tallies::entries` meets its contract: a fault stays; too few entries, too many, or they fit.
-use native.Mathlib.Omega.{arith}
 use borrow.Author.Tests.{le-leb, lt-leb}
 use Rattle.judging.specs.Tallies.{room, entries_after}
 use Rattle.judging.proofs.tallies.entries.Goals as goal

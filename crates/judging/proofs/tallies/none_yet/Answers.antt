@@ -1,5 +1,4 @@
 -- `tallies::none_yet` meets its contract.
-use borrow.Author.Rules.{rules}
 use Rattle.judging.proofs.tallies.none_yet.Goals as goal
 
 pub returns : goal.returns

@@ -1,5 +1,4 @@
 -- `tallies::one_step` meets its contract: by the kind.
-use borrow.Author.Rules.{rules}
 use Rattle.paper.specs.Checking.{step_counts}
 use Rattle.judging.proofs.tallies.one_step.Goals as goal
 

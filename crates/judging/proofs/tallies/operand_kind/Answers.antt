@@ -1,5 +1,4 @@
 -- `tallies::operand_kind` meets its contract, case by case.
-use borrow.Author.Rules.{rules}
 use Rattle.codes.specs.Counting.{elm_kind_of}
 use Rattle.judging.proofs.tallies.operand_kind.Goals as goal
 

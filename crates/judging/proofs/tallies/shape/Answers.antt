@@ -1,6 +1,5 @@
 -- `tallies::shape` meets its contract, field by field.
 use mathlib.Core.List.{[]}
-use borrow.Author.Rules.{rules}
 use native.Mathlib.Omega.{arith}
 use Rattle.codes.specs.Meaning.{elm_of}
 use Rattle.readers.proofs.Counted.{counted_elm}

@@ -1,6 +1,5 @@
 -- `tallies::takes` meets its contract, case by case.
 use mathlib.Core.Path.{◌≡◌, refl}
-use borrow.Author.Rules.{rules}
 use Rattle.paper.specs.Bytes.{Bytes}
 use Rattle.paper.specs.Checking.{shape}
 use Rattle.codes.specs.declared.Elm.{Elm}

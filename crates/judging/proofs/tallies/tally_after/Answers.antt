@@ -1,5 +1,4 @@
 -- `tallies::tally_after` meets its contract: shape, entries and steps are each what the tally has.
-use borrow.Author.Rules.{rules}
 use Rattle.judging.proofs.Tallying.{kind_back, after_is}
 use Rattle.judging.proofs.tallies.tally_after.Goals as goal
 
