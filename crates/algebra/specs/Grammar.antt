@@ -31,7 +31,7 @@ operator =
     ∷ (ch "=", relation (bytes "=") Relation.equal)
     ∷ (ch "#", relation (bytes "#") Relation.unequal)
     ∷ (ch "<", or_equal (relation (bytes "[") Relation.at_most) (relation (bytes "<") Relation.lesser))
-    ∷ (ch ">", or_equal (relation (bytes "]") Relation.at_least_lem) (relation (bytes ">") Relation.greater))
+    ∷ (ch ">", or_equal (relation (bytes "]") Relation.at_least) (relation (bytes ">") Relation.greater))
     ∷ [])
 
 -- what goes on from a thing that is there; if it is not, `other` does

@@ -25,7 +25,7 @@ relation_of Relation.Equal = numbers.equal
 relation_of Relation.Unequal = numbers.unequal
 relation_of Relation.Greater = numbers.greater
 relation_of Relation.Lesser = numbers.lesser
-relation_of Relation.AtLeast = numbers.at_least_lem
+relation_of Relation.AtLeast = numbers.at_least
 relation_of Relation.AtMost = numbers.at_most
 
 unfoldable pub arithmetic_of : Arithmetic → numbers.Binary

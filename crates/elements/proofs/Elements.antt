@@ -1,4 +1,4 @@
--- One element of an address against its outcome: over_long, or put into its slot and run; and its answer gathered. Assumes nothing.
+-- One element of an address against its outcome: over-long, or put into its slot and run; and its answer gathered. Assumes nothing.
 use Prim.Native.Nat.{ℕ, ◌+◌, ◌^◌, ◌≤◌, ◌<◌}
 use mathlib.Core.Path.{◌≡◌, refl, sym, ap, ◌∙◌, subst}
 use mathlib.Core.Bool.{Bool}

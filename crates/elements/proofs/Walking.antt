@@ -18,7 +18,7 @@ use Rattle.paper.specs.Converting.{Element, subvalues, values, from_one, element
 use Rattle.paper.proofs.Splitting.{Filled, filled, split_filled, Free, split_last, split_free, split_without, Told, absent, present, told_then, nth_told, placed_each}
 use Rattle.elements.specs.Walk.{element, in_front, walked}
 
--- the elements of the first value from the s_th subvalue on, and those of the values after it
+-- the elements of the first value from the s-th subvalue on, and those of the values after it
 abbrev from_value : Bytes → ℕ → ℕ → List Bytes → List Element
 from_value before v s [] = []
 from_value before v s (x ∷ xs) = subvalues before v s (split subvalue_mark x) ++ values (value_mark ∷ []) (suc v) xs
@@ -45,6 +45,7 @@ one_more : (b : ℕ) (bs : Bytes) (before : Bytes) (v s : ℕ) (xs : List Bytes)
 unfolding split subvalues
 one_more b bs before v s xs f again true u q =
     ap (λ (es : List Element). element before v s [] ∷ es) (sym (next_value (suc v) xs) ∙ again (value_mark ∷ []) (suc v) 1)
+one_more b bs before v s [] f again false u q = elim f [ ]
 one_more b bs before v s (x ∷ xs) f again false true q =
     rw q (ap (λ (es : List Element). element before v s [] ∷ es) (again (subvalue_mark ∷ []) v (suc s)))
 one_more b bs before v s (x ∷ xs) f again false false q =

@@ -2,6 +2,7 @@
 // They are walked once from left to right, and each answer goes straight to the lent output.
 // Only `convert` calls this: it lends an accepted string, the bytes that a lawful address reads, and what the machine asks.
 #![tactic(auto)]
+
 ghost use Rattle.std.specs.Prelude.{◌≡◌, ◌+◌, ◌^◌, ◌≤◌, ◌<◌, length};
 ghost use Rattle.paper.specs.Sizes.{record_most, position_most};
 ghost use Rattle.stack.specs.Slots.{Lent};
@@ -35,7 +36,7 @@ fn gather(src: &[u8], out: &mut [u8], so_far: usize) -> usize
     end
 }
 
-// One element through all codes: 9 before its first step where it is over_long.
+// One element through all codes: 9 before its first step where it is over-long.
 fn element<'a>(
     item: &'a [u8],
     code: &'a [u8],

@@ -11,7 +11,7 @@ use Rattle.codes.specs.Meaning.{mask_of}
 use Rattle.codes.specs.Counting.{Counted}
 use Rattle.masks.specs.Bounds.{Bounded}
 
--- a mask as `masks` takes it; "`D{n}{s}`, n 0 to 4"; a P code's patterns stand in its code, which is not over_long, with as many tests as it counts
+-- a mask as `masks` takes it; "`D{n}{s}`, n 0 to 4"; a P code's patterns stand in its code, which is not over-long, with as many tests as it counts
 pub data ConversionWithin (code : Bytes) : Conversion → Type 0 where
   plain_within : {p : Plain} → ConversionWithin code (Conversion.Plain p)
   mask_within : {m : Mask} → Bounded (mask_of m) → ConversionWithin code (Conversion.Mask m)

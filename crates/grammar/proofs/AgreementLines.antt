@@ -64,7 +64,7 @@ single_options =
     ∷ (35, paper.relating numbers.unequal)
     ∷ (62, paper.relating numbers.greater)
     ∷ (60, paper.relating numbers.lesser)
-    ∷ (93, paper.relating numbers.at_least_lem)
+    ∷ (93, paper.relating numbers.at_least)
     ∷ []
 
 -- An elm eats a byte at least.

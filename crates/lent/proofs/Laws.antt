@@ -71,7 +71,7 @@ behind_over d at s i h k =
     let split : at + length s + (i - (at + length s)) ≡ i = omega arith in
     subst (λ (j : ℕ). get_or (over d at s) j 0 ≡ get_or d j 0) split (rw (← long, get_or-append-add, get_or-drop))
 
--- the j_th of n elements from `from` on
+-- the j-th of n elements from `from` on
 pub nth_from : (d : List ℕ) (from n j : ℕ) → j < n → get_or (take n (drop from d)) j 0 ≡ get_or d (from + j) 0
 nth_from d from n j h = get_or-take n (drop from d) j 0 h ∙ get_or-drop from d j 0
 

@@ -16,6 +16,6 @@ upto low high (b ∷ bs) = if within low high b then [] else (b ∷ upto low hig
 abbrev pub first_place : ℕ → ℕ → Bytes → ℕ → ℕ → ℕ
 first_place low high text from to = from + length (upto low high (range text from to))
 
--- the k_th piece between marks m, counted from 0; empty where it is missing
+-- the k-th piece between marks m, counted from 0; empty where it is missing
 abbrev pub piece : ℕ → ℕ → Bytes → Bytes
 piece m k bs = or_empty (nth k (split m bs))

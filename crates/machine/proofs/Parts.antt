@@ -202,7 +202,7 @@ unfolding within_budget check code_texts judged_all checked_run codes_run ran_of
 no_codes item [] place meter slotted h = record { answers = refl; element = refl; slotted = slotted }
 no_codes item (b ∷ bs) place meter slotted h = absurd (omega arith)
 
--- what was accepted is not over_long
+-- what was accepted is not over-long
 pub checked_short : (string : Bytes) → Accepted (check string) → length string ≤ code_most
 unfolding check
 checked_short string h = go (leb (length string) code_most) refl h

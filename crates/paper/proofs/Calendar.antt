@@ -55,7 +55,7 @@ leap_days y false true false a b c = omega (arith, eqb-true, eqb-false)
 leap_days y false false true a b c = omega (arith, eqb-true, eqb-false)
 leap_days y false false false a b c = refl
 
--- every k_th year is counted once
+-- every k-th year is counted once
 counted : (k y : ℕ) → (suc y % k ≡ 0 → suc y / k ≡ y / k + 1) → ((suc y % k ≡ 0 → ⊥) → suc y / k ≡ y / k + 0)
     → suc y / k ≡ y / k + (if eqb (suc y % k) 0 then 1 else 0)
 counted k y f g = chosen (λ n. suc y / k ≡ y / k + n) (eqb (suc y % k) 0) (λ t. f (eqb-true _ _ t)) (λ t. g (eqb-false _ _ t))

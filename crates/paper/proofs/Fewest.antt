@@ -100,11 +100,11 @@ unfolding count
 split_others m k bs h =
     omega (arith, rw (ne_eqb m k (λ e. eqb-false k m h (sym e))) at (split_adds (count k) (count_adds k) m bs))
 
--- all pieces but the n_th are alike, missing counted as empty
+-- all pieces but the n-th are alike, missing counted as empty
 abbrev Beside : ℕ → List Bytes → List Bytes → Type 0
 Beside n ps qs = (k : ℕ) → k ≢ n → get_or ps k [] ≡ get_or qs k []
 
--- then the n_th make all the difference
+-- then the n-th make all the difference
 beside_total : (f : Bytes → ℕ) → f [] ≡ 0 → (n : ℕ) (ps qs : List Bytes) → Beside n ps qs
     → total f ps + f (get_or qs n []) ≡ total f qs + f (get_or ps n [])
 unfolding total
@@ -175,7 +175,7 @@ turn_there k (suc n) start (p ∷ ps) e =
     let (at, h, found) = turn_there k n (start + length p + 1) ps e in
     (at, omega arith, found)
 
--- the n_th piece keeps the marks that part it further
+-- the n-th piece keeps the marks that part it further
 piece_count : (m k n : ℕ) (old x : Bytes) → eqb k m ≡ false → Beside n (split m old) (split m x) → count k old ≤ count k x
     → count k (get_or (split m old) n []) ≤ count k (get_or (split m x) n [])
 unfolding count
@@ -259,7 +259,7 @@ place_added (turn {m = m} {n = n} {ts = ts} d) (and_all h hs) old =
     let inner = get_or (split m old) n [] in
     rw join_split at (join_added m h n (replaced ts (seen ts inner)) (split m old) (place_added d hs inner))
 
--- where the n_th piece stands, and what stands around it, whatever it is altered to
+-- where the n-th piece stands, and what stands around it, whatever it is altered to
 record Around (m n start : ℕ) (ps : List Bytes) : Type 0 where
   before : Bytes
   after : Bytes

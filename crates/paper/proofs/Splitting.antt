@@ -127,7 +127,7 @@ pub join_next : (m : ℕ) (p : Bytes) {ps : List Bytes} → Filled ps → join m
 unfolding join
 join_next m p filled = refl
 
--- The n_th.
+-- The n-th.
 
 pub nth_inside : {A : Type 0} (n : ℕ) (xs : List A) (d : A) → n < length xs → nth n xs ≡ some (get_or xs n d)
 unfolding nth
@@ -158,7 +158,7 @@ getD_each n e none_of = e
 getD_each zero e (and_all h hs) = h
 getD_each (suc n) e (and_all h hs) = getD_each n e hs
 
--- Altering the n_th piece.
+-- Altering the n-th piece.
 
 pub alter_filled : (n : ℕ) (f : Bytes → Bytes) (ps : List Bytes) → Filled (alter n f ps)
 unfolding alter
@@ -175,7 +175,7 @@ alter_each zero f e h (and_all {a = p} q hs) = and_all (h p q) hs
 alter_each (suc n) f e h none_of = and_all e (alter_each n f e h none_of)
 alter_each (suc n) f e h (and_all q hs) = and_all q (alter_each n f e h hs)
 
--- "as few as will do": as many pieces as there were, or as many as the n_th takes
+-- "as few as will do": as many pieces as there were, or as many as the n-th takes
 pub alter_length : (n : ℕ) (f : Bytes → Bytes) (ps : List Bytes) → length (alter n f ps) ≡ max (suc n) (length ps)
 unfolding alter
 alter_length zero f [] = refl
@@ -183,7 +183,7 @@ alter_length zero f (p ∷ ps) = omega arith
 alter_length (suc n) f [] = omega (arith, alter_length n f [])
 alter_length (suc n) f (p ∷ ps) = omega (arith, alter_length n f ps)
 
--- the n_th is there afterwards, made of what it was, missing counted as empty
+-- the n-th is there afterwards, made of what it was, missing counted as empty
 pub nth_alter : (n : ℕ) (f : Bytes → Bytes) (ps : List Bytes) → nth n (alter n f ps) ≡ some (f (get_or ps n []))
 unfolding alter nth
 nth_alter zero f [] = refl
@@ -210,7 +210,7 @@ getD_alter_other (suc n) (suc k) f (p ∷ ps) h = getD_alter_other n k f ps (λ 
 abbrev pub text_of : Option Part → Option Bytes
 text_of o = map (λ p. p.text) o
 
--- the n_th placed piece has the bytes of the n_th piece
+-- the n-th placed piece has the bytes of the n-th piece
 pub nth_placed : (n start : ℕ) (ps : List Bytes) → text_of (nth n (placed start ps)) ≡ nth n ps
 unfolding nth placed
 nth_placed n start [] = refl

@@ -16,13 +16,13 @@ pub record Element : Type 0 where
   pub s : ℕ
   pub text : Bytes
 
--- a value's subvalues from the s_th on
+-- a value's subvalues from the s-th on
 unfoldable pub subvalues : Bytes → ℕ → ℕ → List Bytes → List Element
 subvalues before v s [] = []
 subvalues before v s (x ∷ xs) =
     record { before = before; v = v; s = s; text = x } ∷ subvalues (subvalue_mark ∷ []) v (suc s) xs
 
--- an attribute's subvalues from the v_th value on
+-- an attribute's subvalues from the v-th value on
 unfoldable pub values : Bytes → ℕ → List Bytes → List Element
 values before v [] = []
 values before v (x ∷ xs) = subvalues before v 1 (split subvalue_mark x) ++ values (value_mark ∷ []) (suc v) xs

@@ -45,7 +45,7 @@ year_or_next n y = if leb (days_before_year (suc y)) n then suc y else y
 unfoldable pub year_of : ℕ → ℕ
 year_of n = year_or_next n (suc (n * 400 / 146_097))
 
--- the month and the day that the n_th day, from 0, of months of these lengths is
+-- the month and the day that the n-th day, from 0, of months of these lengths is
 unfoldable pub month_day : ℕ → ℕ → List ℕ → ℕ → Date
 month_day y m [] n = record { year = y; month = m; day = suc n }
 month_day y m (l ∷ ls) n =

@@ -322,7 +322,7 @@ operator_elm =
     ∷ (ch "#", relating Relation.unequal)
     ∷ (ch ">", relating Relation.greater)
     ∷ (ch "<", relating Relation.lesser)
-    ∷ (ch "]", relating Relation.at_least_lem)
+    ∷ (ch "]", relating Relation.at_least)
     ∷ (ch "[", bracket_elm)
     ∷ (ch "(", converting_elm)
     ∷ [])

@@ -145,7 +145,7 @@ compared second top = compare_forms second top (numeric second) (numeric top)
 
 -- `=` `#` `>` `<` `]` `[` (001, 4.5): equal, unequal, greater, less, greater or equal, less or equal
 pub data Relation : Type 0 where
-  equal unequal greater lesser at_least_lem at_most : Relation
+  equal unequal greater lesser at_least at_most : Relation
 
 unfoldable pub holds : Relation → Order → Bool
 holds equal less = false
@@ -160,9 +160,9 @@ holds greater more = true
 holds lesser less = true
 holds lesser same = false
 holds lesser more = false
-holds at_least_lem less = false
-holds at_least_lem same = true
-holds at_least_lem more = true
+holds at_least less = false
+holds at_least same = true
+holds at_least more = true
 holds at_most less = true
 holds at_most same = true
 holds at_most more = false

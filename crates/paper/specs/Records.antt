@@ -80,7 +80,7 @@ nth n [] = none
 nth zero (x ∷ xs) = some x
 nth (suc n) (x ∷ xs) = nth n xs
 
--- One turn on the way to an address: the n_th piece, from 0, by the mark m.
+-- One turn on the way to an address: the n-th piece, from 0, by the mark m.
 pub record Turn : Type 0 where
   pub mark : ℕ
   pub index : ℕ
@@ -147,7 +147,7 @@ extract (given (some p)) = p.text
 extract (given none) = []
 extract (refused n) = []
 
--- the n_th piece made anew by f, out of nothing where it is missing: "A missing place is made by adding marks only, as few as will do."
+-- the n-th piece made anew by f, out of nothing where it is missing: "A missing place is made by adding marks only, as few as will do."
 unfoldable pub alter : ℕ → (Bytes → Bytes) → List Bytes → List Bytes
 alter zero f [] = f [] ∷ []
 alter zero f (p ∷ ps) = f p ∷ ps

@@ -139,7 +139,7 @@ module _ (m : ℕ) (low : m ≤ attribute_mark) where
   join_made zero f = refl
   join_made (suc n) f = join_next m [] (alter_filled n f []) ∙ ap (λ (l : Bytes). m ∷ l) (join_made n f)
 
-  -- What a scan for the n_th of the pieces ps comes to: the bytes passed and those left, and how many marks are missing.
+  -- What a scan for the n-th of the pieces ps comes to: the bytes passed and those left, and how many marks are missing.
   record Scan (ps : List Bytes) (rest : Bytes) (n : ℕ) : Type 0 where
     front : Bytes
     back : Bytes
@@ -278,7 +278,7 @@ module _ (m : ℕ) (low : m ≤ attribute_mark) where
     pub stop_fewer : stop.left ≤ n
     stop_fewer = omega (arith, ap (λ (p : Stop). p.left) stopped, scan.fewer)
 
-    -- it finds the n_th piece
+    -- it finds the n-th piece
     pub stop_found : nth n (placed at (split m piece)) ≡ none_left stop.left (some (piece_at m item stop.at))
     stop_found =
         scan.found at ∙ ap (λ (p : Stop). none_left p.left (some (part p.at (upto m attribute_mark scan.back)))) (sym stopped)

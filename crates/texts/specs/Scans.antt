@@ -15,7 +15,7 @@ unfoldable pub field_end : ℕ → ℕ → Bytes → ℕ
 field_end x n [] = 0
 field_end x n (b ∷ bs) = ended (eqb b x) n (λ m. field_end x m bs)
 
--- what follows the n_th separator, counted from 1
+-- what follows the n-th separator, counted from 1
 unfoldable pub fields_after : ℕ → ℕ → Bytes → Bytes
 fields_after x zero e = e
 fields_after x (suc n) e = drop (suc (field_end x n e)) e

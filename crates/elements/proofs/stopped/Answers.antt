@@ -1,0 +1,12 @@
+-- `elements::stopped` meets its contract: the refusal with the steps before it.
+use borrow.Author.Rules.{rules}
+use Rattle.elements.specs.Running.{stopped_as}
+use Rattle.elements.proofs.stopped.Goals as goal
+
+pub returns-in-Done : goal.returns-in-Done
+unfolding stopped_as
+returns-in-Done c = rw c.in-Done.is
+
+pub returns-in-Stopped : goal.returns-in-Stopped
+unfolding stopped_as
+returns-in-Stopped c = rw c.in-Stopped.is
