@@ -184,29 +184,41 @@ work_room = lit≤ tt
 pub text_short : (item : Bytes) (ts : List Turn) (text : Bytes) → text ≡ reads item ts → length item ≤ record_most → length text ≤ record_most
 text_short item ts text e h = rw e (omega (arith, reads_short item ts))
 
-module _ (item string : Bytes) (a v s budget scratch : ℕ) where
+-- what converting answers, and what it leaves in the output and the scratch
+abbrev pub Left : Outcome → Bytes → Bytes → Converted → Bytes → Bytes → Type 0
+Left o out scratch r out' scratch' =
+    record {
+      value : r ≡ converted_of o;
+      out_after : out' ≡ output_after (length out) o;
+      scratch_after : scratch' ≡ scratch_after (length scratch);
+    }
+
+module _ (item string : Bytes) (a v s budget : ℕ) (lent : Bytes) where
   -- what a refusal before the run leaves
-  pub at_once : (out : Bytes) (n : ℕ) {r : Converted} {out' scratch' : Bytes} → convert item string a v s budget (length out) scratch ≡ refused_at_once n
-      → (r ≡ converted_of (refused_at_once n)) × ((out' ≡ output_after (length out) (refused_at_once n)) × (scratch' ≡ scratch_after scratch))
-      → (r ≡ converted_of (convert item string a v s budget (length out) scratch))
-      × ((out' ≡ output_after (length out) (convert item string a v s budget (length out) scratch)) × (scratch' ≡ scratch_after scratch))
-  at_once out n e p = (p.0 ∙ ap converted_of (sym e), (p.1.0 ∙ ap (output_after (length out)) (sym e), p.1.1))
+  pub at_once : (out : Bytes) (n : ℕ) {r : Converted} {out' scratch' : Bytes} → convert item string a v s budget (length out) (length lent) ≡ refused_at_once n
+      → Left (refused_at_once n) out lent r out' scratch'
+      → Left (convert item string a v s budget (length out) (length lent)) out lent r out' scratch'
+  at_once out n e p =
+      record {
+        value = p.value ∙ ap converted_of (sym e);
+        out_after = p.out_after ∙ ap (output_after (length out)) (sym e);
+        scratch_after = p.scratch_after;
+      }
 
   -- what the run and its end leave
   pub run_finished : (out : Bytes) {out₁ out' scratch' : Bytes} {w : Walked} {r : Converted} → lawful_find item a v s ≡ given tt → Accepts string
-      → scratch_least ≤ scratch → Walks (within_budget budget 0 (run item a v s (codes_in string))) w out out₁
-      → r ≡ finished_as (length out₁) w → out' ≡ finished_out out₁ w → scratch' ≡ scratch_after scratch
-      → (r ≡ converted_of (convert item string a v s budget (length out) scratch))
-      × ((out' ≡ output_after (length out) (convert item string a v s budget (length out) scratch)) × (scratch' ≡ scratch_after scratch))
+      → scratch_least ≤ length lent → Walks (within_budget budget 0 (run item a v s (codes_in string))) w out out₁
+      → r ≡ finished_as (length out₁) w → out' ≡ finished_out out₁ w → scratch' ≡ scratch_after (length lent)
+      → Left (convert item string a v s budget (length out) (length lent)) out lent r out' scratch'
   run_finished out {out₁} {out'} {scratch'} {w} {r} e f h walks p q z =
       let o : Outcome = within_budget budget 0 (run item a v s (codes_in string)) in
-      let whole : convert item string a v s budget (length out) scratch ≡ finished (length out₁) o
-      = converted_run item string a v s budget (length out) scratch e f h ∙ ap (λ (n : ℕ). finished n o) (sym walks.room) in
-      let ended = finished_outcome out₁ o walks.held in (
-        p ∙ ap (finished_as (length out₁)) walks.answers ∙ ended.0 ∙ ap converted_of (sym whole),
-        (
+      let whole : convert item string a v s budget (length out) (length lent) ≡ finished (length out₁) o
+      = converted_run item string a v s budget (length out) (length lent) e f h ∙ ap (λ (n : ℕ). finished n o) (sym walks.room) in
+      let ended = finished_outcome out₁ o walks.held in
+      record {
+        value = p ∙ ap (finished_as (length out₁)) walks.answers ∙ ended.0 ∙ ap converted_of (sym whole);
+        out_after =
           q ∙ ap (finished_out out₁) walks.answers ∙ ended.1
-              ∙ ap (λ (n : ℕ). output_after n (finished (length out₁) o)) walks.room ∙ ap (output_after (length out)) (sym whole),
-          z,
-        ),
-      )
+              ∙ ap (λ (n : ℕ). output_after n (finished (length out₁) o)) walks.room ∙ ap (output_after (length out)) (sym whole);
+        scratch_after = z;
+      }

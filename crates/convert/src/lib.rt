@@ -2,6 +2,7 @@
 // `convert` takes any record, code string, address, budget and buffers; it is the definition of crates/paper, byte for byte.
 // `ceiling` works out beforehand the most steps that a conversion can take.
 #![tactic(auto)]
+
 ghost use Rattle.std.specs.Prelude.{◌≡◌, ◌≤◌, length};
 ghost use Rattle.paper.specs.Sizes.{scratch_least};
 ghost use Rattle.paper.specs.Refusals.{given};

@@ -1,0 +1,20 @@
+-- `convert::run` meets its contract: the walk over what the address reads is the paper's run.
+use borrow.Author.Rules.{rules}
+use Rattle.convert.proofs.Stages.{lawful_numbers, text_short, from_one_most, empty_slots, work_room, walks_run}
+use Rattle.convert.proofs.run.Goals as goal
+
+pub walk-requires : goal.walk-requires
+walk-requires c =
+    let lawful = lawful_numbers _ _ _ _ c.requires.0 in record {
+      lent = (
+        record { record_fits = lawful.record_fits; slotted = empty_slots _ c.requires.2; work_fits = work_room },
+        c.requires.1,
+        text_short _ _ _ c.part-text.ensures.bytes lawful.record_fits,
+      );
+      v_le_position_most = (rw c.from_one.ensures (from_one_most _ lawful.values), rw c.from_one-2.ensures (from_one_most _ lawful.subvalues));
+    }
+
+pub returns : goal.returns
+returns c =
+    walks_run _ _ _ _ _ _ (lawful_numbers _ _ _ _ c.requires.0) c.part-text.ensures.bytes c.from_one.ensures c.from_one-2.ensures
+    c.walk.ensures
