@@ -2,6 +2,7 @@
 // Each returns the refusal's number, 0 for none; what else it gives goes behind the references, which it always writes.
 // They take any input and have no `requires`; the work is done by the crates below, whose answers are turned into numbers here.
 #![tactic(auto)]
+
 ghost use Rattle.std.specs.Prelude.{◌≡◌};
 ghost use Rattle.paper.specs.Refusals.{refusal_of};
 ghost use Rattle.paper.specs.Records.{find};
