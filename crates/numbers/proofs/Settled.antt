@@ -1,7 +1,6 @@
 -- Any two outcomes that a contract of this crate allows are equal: result, and every byte of a lent buffer. Assumes nothing.
 use mathlib.Core.Path.{◌≡◌, sym, ap, ◌∙◌}
 use Rattle.paper.specs.Numbers.{Number as Whole}
-use Rattle.numbers.specs.declared.Number.{Number}
 use Rattle.numbers.specs.declared.Reckoned.{Reckoned}
 use Rattle.numbers.specs.declared.Order.{Order}
 use Rattle.numbers.specs.declared.Compared.{Compared}

@@ -11,7 +11,7 @@ use lib.ListN.{length}
 use borrow.Author.Tests.{le-leb, leb-true}
 use Rattle.paper.specs.Bytes.{Bytes, if◌then◌else◌}
 use Rattle.paper.specs.Sizes.{entry_most}
-use Rattle.paper.specs.Refusals.{Res, given, refused, ◌>>=◌, ◌>>◌, refuse◌unless◌, refusal_of, answer_of}
+use Rattle.paper.specs.Refusals.{Res, given, refused, ◌>>=◌, refuse◌unless◌, refusal_of, answer_of}
 use Rattle.paper.specs.Refusals.{over_long_entry, over_budget, short_output}
 use Rattle.paper.specs.Codes.{Conversion, Code}
 use Rattle.paper.specs.Checking.{conversion_kind, accepted, check}

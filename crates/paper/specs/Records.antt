@@ -15,22 +15,7 @@ use Rattle.paper.specs.Sizes.{
   attribute_most,
   position_most,
 }
-use Rattle.paper.specs.Refusals.{
-  Res,
-  given,
-  refused,
-  ◌>>=◌,
-  ◌>>◌,
-  refuse◌unless◌,
-  refuse◌when◌,
-  over_long_record,
-  bad_byte,
-  bad_id,
-  bad_address,
-  over_long_entry,
-  mark_in_element,
-  short_output,
-}
+use Rattle.paper.specs.Refusals.{Res, given, refused, ◌>>◌, refuse◌unless◌, refuse◌when◌, over_long_record, bad_byte, bad_id, bad_address, over_long_entry, mark_in_element, short_output}
 
 -- a byte goes on the first piece, or, being the mark, opens a new one
 abbrev pub opened : Bool → ℕ → List Bytes → List Bytes

@@ -2,6 +2,7 @@
 // and, in code, the mark bytes and size limits that every crate above shares.
 // What document 01's calls answer is stated by specs/; the specs/ of the other crates only turn it into the forms that their code has.
 #![tactic(auto)]
+
 ghost use Rattle.std.specs.Prelude.{◌≡◌};
 ghost use Rattle.paper.specs.Program.{drawn};
 

@@ -1,5 +1,4 @@
 -- `lent::clear` meets its contract: the zeros that `fill` lays cover the buffer.
-use borrow.Author.Rules.{rules}
 use mathlib.Core.Path.{◌∙◌}
 use lib.ListN.{length-replicate}
 use Rattle.lent.proofs.Laws.{over_all}

@@ -1,10 +1,9 @@
 -- `lent::copy_down` meets its contract: each turn lays one byte more of what stood at `from`, and reads it behind what it has laid.
-use Prim.Native.Nat.{◌+◌, ◌-◌}
+use Prim.Native.Nat.{◌+◌}
 use native.Mathlib.Omega.{arith}
 use mathlib.Core.Path.{sym, ◌∙◌}
-use lib.ListN.{take, drop}
 use Rattle.lent.proofs.Laws.{nth_from, length_from}
-use Rattle.lent.proofs.Laying.{Laying, laying_none, laying_more, laying_all, behind_laying}
+use Rattle.lent.proofs.Laying.{laying_none, laying_more, laying_all, behind_laying}
 use Rattle.lent.proofs.copy_down.Goals as goal
 
 pub loop-j-init : goal.loop-j-init

@@ -1,9 +1,6 @@
-use Prim.Native.Nat.{◌+◌, ◌-◌}
-use native.Mathlib.Omega.{arith}
-use mathlib.Core.Path.{sym, ◌∙◌}
+use Prim.Native.Nat.{◌-◌}
 use lib.ListN.{take, drop}
-use Rattle.lent.proofs.Laws.{nth_from, length_from}
-use Rattle.lent.proofs.Laying.{Laying, laying_none, laying_more, laying_all, behind_laying}
+use Rattle.lent.proofs.Laying.{Laying}
 use Rattle.lent.proofs.copy_down.Given as goal
 
 abbrev pub invariant-loop-j : goal.invariant-loop-j

@@ -1,9 +1,7 @@
 -- `lent::copy_in` meets its contract: each turn lays one byte more of `src`.
-use Prim.Native.Nat.{◌-◌}
 use native.Mathlib.Omega.{arith}
 use mathlib.Core.Path.{refl}
-use lib.ListN.{length}
-use Rattle.lent.proofs.Laying.{Laying, laying_none, laying_more, laying_all}
+use Rattle.lent.proofs.Laying.{laying_none, laying_more, laying_all}
 use Rattle.lent.proofs.copy_in.Goals as goal
 
 pub loop-j-init : goal.loop-j-init

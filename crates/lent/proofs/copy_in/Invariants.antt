@@ -1,8 +1,6 @@
 use Prim.Native.Nat.{◌-◌}
-use native.Mathlib.Omega.{arith}
-use mathlib.Core.Path.{refl}
 use lib.ListN.{length}
-use Rattle.lent.proofs.Laying.{Laying, laying_none, laying_more, laying_all}
+use Rattle.lent.proofs.Laying.{Laying}
 use Rattle.lent.proofs.copy_in.Given as goal
 
 abbrev pub invariant-loop-j : goal.invariant-loop-j

@@ -3,9 +3,8 @@ use Prim.Native.Nat.{◌+◌, ◌-◌}
 use native.Mathlib.Nat.{le_refl}
 use native.Mathlib.Omega.{arith}
 use mathlib.Core.Path.{sym, ◌∙◌}
-use lib.ListN.{take, drop}
 use Rattle.lent.proofs.Laws.{nth_from, length_from}
-use Rattle.lent.proofs.Laying.{Laying, laying_none, laying_less, laying_all, before_laying}
+use Rattle.lent.proofs.Laying.{laying_none, laying_less, laying_all, before_laying}
 use Rattle.lent.proofs.copy_up.Goals as goal
 
 pub loop-j-init : goal.loop-j-init

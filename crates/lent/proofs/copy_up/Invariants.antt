@@ -1,10 +1,5 @@
-use Prim.Native.Nat.{◌+◌, ◌-◌}
-use native.Mathlib.Nat.{le_refl}
-use native.Mathlib.Omega.{arith}
-use mathlib.Core.Path.{sym, ◌∙◌}
 use lib.ListN.{take, drop}
-use Rattle.lent.proofs.Laws.{nth_from, length_from}
-use Rattle.lent.proofs.Laying.{Laying, laying_none, laying_less, laying_all, before_laying}
+use Rattle.lent.proofs.Laying.{Laying}
 use Rattle.lent.proofs.copy_up.Given as goal
 
 abbrev pub invariant-loop-j : goal.invariant-loop-j

@@ -1,9 +1,8 @@
 -- `lent::fill` meets its contract: each turn lays one byte more of `replicate count b`.
-use Prim.Native.Nat.{◌-◌}
 use native.Mathlib.Omega.{arith}
 use mathlib.Core.Path.{sym}
-use lib.ListN.{replicate, length-replicate, get_or-replicate}
-use Rattle.lent.proofs.Laying.{Laying, laying_none, laying_more, laying_all}
+use lib.ListN.{length-replicate, get_or-replicate}
+use Rattle.lent.proofs.Laying.{laying_none, laying_more, laying_all}
 use Rattle.lent.proofs.fill.Goals as goal
 
 pub loop-j-init : goal.loop-j-init

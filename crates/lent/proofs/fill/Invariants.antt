@@ -1,8 +1,6 @@
 use Prim.Native.Nat.{◌-◌}
-use native.Mathlib.Omega.{arith}
-use mathlib.Core.Path.{sym}
-use lib.ListN.{replicate, length-replicate, get_or-replicate}
-use Rattle.lent.proofs.Laying.{Laying, laying_none, laying_more, laying_all}
+use lib.ListN.{replicate}
+use Rattle.lent.proofs.Laying.{Laying}
 use Rattle.lent.proofs.fill.Given as goal
 
 abbrev pub invariant-loop-j : goal.invariant-loop-j

@@ -1,8 +1,6 @@
 -- `lent::first_within` meets its contract: from place to place the answer stays the same, until a byte within the two stops it.
-use Prim.Native.Nat.{◌-◌, ◌≤◌}
-use mathlib.Core.Path.{◌≡◌, refl, ◌∙◌}
+use mathlib.Core.Path.{refl, ◌∙◌}
 use native.Mathlib.Omega.{arith}
-use Rattle.lent.specs.Scan.{first_place}
 use Rattle.lent.proofs.Scans.{upto_hit, upto_more, upto_none}
 use Rattle.lent.proofs.first_within.Goals as goal
 

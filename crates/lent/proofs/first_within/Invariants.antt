@@ -1,8 +1,6 @@
 use Prim.Native.Nat.{◌-◌, ◌≤◌}
-use mathlib.Core.Path.{◌≡◌, refl, ◌∙◌}
-use native.Mathlib.Omega.{arith}
+use mathlib.Core.Path.{◌≡◌}
 use Rattle.lent.specs.Scan.{first_place}
-use Rattle.lent.proofs.Scans.{upto_hit, upto_more, upto_none}
 use Rattle.lent.proofs.first_within.Given as goal
 
 abbrev pub invariant-loop-at : goal.invariant-loop-at

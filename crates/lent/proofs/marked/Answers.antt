@@ -1,5 +1,4 @@
 -- `lent::marked` meets its contract: the marks are the bytes within the two.
-use borrow.Author.Rules.{rules}
 use Rattle.paper.specs.Sizes.{is_mark}
 use Rattle.lent.proofs.marked.Goals as goal
 

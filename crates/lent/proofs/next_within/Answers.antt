@@ -1,7 +1,6 @@
 -- `lent::next_within` meets its contract: the first bytes have the answer, or it is the rest's.
 use mathlib.Core.Path.{sym, ◌∙◌}
 use native.Mathlib.Omega.{arith}
-use borrow.Author.Rules.{rules}
 use Rattle.lent.proofs.Scans.{upto_hit, upto_none}
 use Rattle.lent.proofs.Blocks.{first_near, first_far}
 use Rattle.lent.proofs.next_within.Goals as goal

@@ -1,9 +1,8 @@
 -- `lent::pass_blocks` meets its contract: from block to block the answer stays the same.
-use Prim.Native.Nat.{◌+◌, ◌-◌, ◌≤◌}
-use mathlib.Core.Path.{◌≡◌, refl, sym, ◌∙◌}
+use Prim.Native.Nat.{◌+◌}
+use mathlib.Core.Path.{refl, sym, ◌∙◌}
 use native.Mathlib.Omega.{arith}
-use borrow.Author.Rules.{rules}
-use Rattle.lent.specs.Scan.{range, first_place}
+use Rattle.lent.specs.Scan.{range}
 use Rattle.lent.proofs.Blocks.{first_clear}
 use Rattle.lent.proofs.pass_blocks.Goals as goal
 

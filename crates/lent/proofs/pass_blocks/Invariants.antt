@@ -1,9 +1,6 @@
-use Prim.Native.Nat.{◌+◌, ◌-◌, ◌≤◌}
-use mathlib.Core.Path.{◌≡◌, refl, sym, ◌∙◌}
-use native.Mathlib.Omega.{arith}
-use borrow.Author.Rules.{rules}
-use Rattle.lent.specs.Scan.{range, first_place}
-use Rattle.lent.proofs.Blocks.{first_clear}
+use Prim.Native.Nat.{◌-◌, ◌≤◌}
+use mathlib.Core.Path.{◌≡◌}
+use Rattle.lent.specs.Scan.{first_place}
 use Rattle.lent.proofs.pass_blocks.Given as goal
 
 abbrev pub invariant-loop-at : goal.invariant-loop-at

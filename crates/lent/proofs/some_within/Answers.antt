@@ -1,11 +1,9 @@
 -- `lent::some_within` meets its contract: the flag has what the bytes passed tell, and the rest tells the rest.
-use Prim.Native.Nat.{◌-◌, ◌≤◌}
-use mathlib.Core.Path.{◌≡◌, refl}
-use mathlib.Core.Bool.{◌||◌, not}
+use mathlib.Core.Path.{refl}
+use mathlib.Core.Bool.{not}
 use native.Mathlib.Omega.{arith}
-use lib.ListN.{length, drop}
 use lib.Dec.{eqb}
-use Rattle.paper.specs.Bytes.{any, within}
+use Rattle.paper.specs.Bytes.{within}
 use Rattle.lent.proofs.Scans.{any_hit, any_miss, any_all}
 use Rattle.lent.proofs.some_within.Goals as goal
 

@@ -1,11 +1,9 @@
 use Prim.Native.Nat.{◌-◌, ◌≤◌}
-use mathlib.Core.Path.{◌≡◌, refl}
+use mathlib.Core.Path.{◌≡◌}
 use mathlib.Core.Bool.{◌||◌, not}
-use native.Mathlib.Omega.{arith}
 use lib.ListN.{length, drop}
 use lib.Dec.{eqb}
 use Rattle.paper.specs.Bytes.{any, within}
-use Rattle.lent.proofs.Scans.{any_hit, any_miss, any_all}
 use Rattle.lent.proofs.some_within.Given as goal
 
 abbrev pub invariant-loop-i : goal.invariant-loop-i

@@ -1,12 +1,10 @@
 -- `decode` writes the byte that each pair spells, and counts them. The loop's invariant: what the rest spells goes behind what is written.
-use Prim.Native.Nat.{◌≤◌, ◌<◌, ◌-◌}
+use Prim.Native.Nat.{◌<◌}
 use native.Mathlib.Omega.{arith}
-use lib.ListN.{length, drop}
-use borrow.Author.Rules.{rules}
+use lib.ListN.{length}
 use Rattle.paper.specs.Answers.{written}
-use Rattle.texts.specs.Scans.{decoded}
 use Rattle.texts.proofs.Spelling.{decoded_next, decoded_none, decoded_fits}
-use Rattle.texts.proofs.Writing.{Progress, begun, room, put, onto, counted, stands}
+use Rattle.texts.proofs.Writing.{begun, room, put, onto, counted, stands}
 use Rattle.texts.proofs.decode.Goals as goal
 
 pub loop-i-init : goal.loop-i-init

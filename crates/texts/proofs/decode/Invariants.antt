@@ -1,11 +1,7 @@
-use Prim.Native.Nat.{◌≤◌, ◌<◌, ◌-◌}
-use native.Mathlib.Omega.{arith}
+use Prim.Native.Nat.{◌≤◌, ◌-◌}
 use lib.ListN.{length, drop}
-use borrow.Author.Rules.{rules}
-use Rattle.paper.specs.Answers.{written}
 use Rattle.texts.specs.Scans.{decoded}
-use Rattle.texts.proofs.Spelling.{decoded_next, decoded_none, decoded_fits}
-use Rattle.texts.proofs.Writing.{Progress, begun, room, put, onto, counted, stands}
+use Rattle.texts.proofs.Writing.{Progress}
 use Rattle.texts.proofs.decode.Given as goal
 
 abbrev pub invariant-loop-i : goal.invariant-loop-i

@@ -1,6 +1,5 @@
 -- `give` copies the part to the front of the output.
 use mathlib.Core.Path.{refl, ◌∙◌}
-use borrow.Author.Rules.{rules}
 use Rattle.paper.specs.Sizes.{entry_most}
 use Rattle.paper.proofs.Limits.{limited_within, gives_bytes}
 use Rattle.lent.proofs.Laws.{over_front}

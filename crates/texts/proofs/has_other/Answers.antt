@@ -1,11 +1,6 @@
 -- `has_other` tells whether a byte that is no hex digit is there: the flag has what the bytes passed tell, and the rest tells the rest.
-use mathlib.Core.Path.{◌≡◌, refl}
-use mathlib.Core.Bool.{◌||◌}
-use Prim.Native.Nat.{◌≤◌, ◌-◌}
+use mathlib.Core.Path.{refl}
 use native.Mathlib.Omega.{arith}
-use lib.ListN.{length, drop}
-use borrow.Author.Rules.{rules}
-use Rattle.paper.specs.Bytes.{any}
 use Rattle.texts.specs.Scans.{is_other}
 use Rattle.lent.proofs.Scans.{any_next, any_all}
 use Rattle.texts.proofs.has_other.Goals as goal

@@ -1,12 +1,9 @@
-use mathlib.Core.Path.{◌≡◌, refl}
+use mathlib.Core.Path.{◌≡◌}
 use mathlib.Core.Bool.{◌||◌}
 use Prim.Native.Nat.{◌≤◌, ◌-◌}
-use native.Mathlib.Omega.{arith}
 use lib.ListN.{length, drop}
-use borrow.Author.Rules.{rules}
 use Rattle.paper.specs.Bytes.{any}
 use Rattle.texts.specs.Scans.{is_other}
-use Rattle.lent.proofs.Scans.{any_next, any_all}
 use Rattle.texts.proofs.has_other.Given as goal
 
 abbrev pub invariant-loop-i : goal.invariant-loop-i

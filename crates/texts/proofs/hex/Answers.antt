@@ -1,14 +1,13 @@
 -- `hex` refuses what would pass the limit, and else writes two digits a byte. The loop's invariant: the rest, spelled, goes behind what is written.
 --
-use mathlib.Core.Path.{◌≡◌, refl}
-use Prim.Native.Nat.{◌*◌, ◌≤◌, ◌-◌}
+use mathlib.Core.Path.{refl}
 use native.Mathlib.Omega.{arith}
-use lib.ListN.{length, drop, length-set}
+use lib.ListN.{length-set}
 use Rattle.paper.specs.Sizes.{entry_most}
-use Rattle.paper.specs.Texts.{plain_gives, hexed}
+use Rattle.paper.specs.Texts.{plain_gives}
 use Rattle.paper.proofs.Limits.{entry_limit, limited_over, refuses_with}
 use Rattle.texts.proofs.Spelling.{hexed_next, hexed_none, hexed_length}
-use Rattle.texts.proofs.Writing.{Progress, begun, put_pair, onto, answered}
+use Rattle.texts.proofs.Writing.{begun, put_pair, onto, answered}
 use Rattle.texts.proofs.hex.Goals as goal
 
 pub overflow_mul-e : goal.overflow_mul-e

@@ -1,12 +1,8 @@
-use mathlib.Core.Path.{◌≡◌, refl}
+use mathlib.Core.Path.{◌≡◌}
 use Prim.Native.Nat.{◌*◌, ◌≤◌, ◌-◌}
-use native.Mathlib.Omega.{arith}
-use lib.ListN.{length, drop, length-set}
-use Rattle.paper.specs.Sizes.{entry_most}
-use Rattle.paper.specs.Texts.{plain_gives, hexed}
-use Rattle.paper.proofs.Limits.{entry_limit, limited_over, refuses_with}
-use Rattle.texts.proofs.Spelling.{hexed_next, hexed_none, hexed_length}
-use Rattle.texts.proofs.Writing.{Progress, begun, put_pair, onto, answered}
+use lib.ListN.{length, drop}
+use Rattle.paper.specs.Texts.{hexed}
+use Rattle.texts.proofs.Writing.{Progress}
 use Rattle.texts.proofs.hex.Given as goal
 
 abbrev pub invariant-loop-i : goal.invariant-loop-i

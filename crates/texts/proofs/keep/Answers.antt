@@ -1,14 +1,11 @@
 -- `keep` gives the bytes that pass its class's test. The loop's invariant: what is kept of the rest goes behind what is written.
 use mathlib.Core.Path.{sym, ◌∙◌}
-use mathlib.Core.Logic.{⊎_elim}
-use Prim.Native.Nat.{◌≤◌, ◌<◌, ◌-◌}
+use Prim.Native.Nat.{◌<◌}
 use native.Mathlib.Omega.{arith}
-use lib.ListN.{length, drop}
-use borrow.Author.Rules.{rules}
-use Rattle.paper.specs.Bytes.{only}
+use lib.ListN.{length}
 use Rattle.texts.specs.Codes.{kept}
 use Rattle.texts.proofs.Laws.{keeps_next, drops_next, only_fits, only_none, keep_gives}
-use Rattle.texts.proofs.Writing.{Progress, begun, room, put, onto, answered}
+use Rattle.texts.proofs.Writing.{begun, room, put, onto, answered}
 use Rattle.texts.proofs.keep.Goals as goal
 use Rattle.texts.proofs.keep.Goals.{then-keeps, else-keeps}
 
@@ -30,8 +27,8 @@ loop-i-preserved c =
     let tested = sym c.keeps.ensures in (
       omega arith,
       elim c.if-keeps.branch [
-        then-keeps w ↦ rw (w.n-is, w.out-is) (put (onto c.loop-i.invariant.1 (keeps_next _ _ _ c.loop-i-test.true (tested ∙ w.if-keeps.true))))
-      | else-keeps w ↦ rw (w.n-is, w.out-is) (onto c.loop-i.invariant.1 (drops_next _ _ _ c.loop-i-test.true (tested ∙ w.if-keeps.false)))
+        | then-keeps w ↦ rw (w.n-is, w.out-is) (put (onto c.loop-i.invariant.1 (keeps_next _ _ _ c.loop-i-test.true (tested ∙ w.if-keeps.true))))
+        | else-keeps w ↦ rw (w.n-is, w.out-is) (onto c.loop-i.invariant.1 (drops_next _ _ _ c.loop-i-test.true (tested ∙ w.if-keeps.false)))
       ],
     )
 

@@ -1,13 +1,8 @@
-use mathlib.Core.Path.{sym, ◌∙◌}
-use mathlib.Core.Logic.{⊎_elim}
-use Prim.Native.Nat.{◌≤◌, ◌<◌, ◌-◌}
-use native.Mathlib.Omega.{arith}
+use Prim.Native.Nat.{◌≤◌, ◌-◌}
 use lib.ListN.{length, drop}
-use borrow.Author.Rules.{rules}
 use Rattle.paper.specs.Bytes.{only}
 use Rattle.texts.specs.Codes.{kept}
-use Rattle.texts.proofs.Laws.{keeps_next, drops_next, only_fits, only_none, keep_gives}
-use Rattle.texts.proofs.Writing.{Progress, begun, room, put, onto, answered}
+use Rattle.texts.proofs.Writing.{Progress}
 use Rattle.texts.proofs.keep.Given as goal
 
 abbrev pub invariant-loop-i : goal.invariant-loop-i

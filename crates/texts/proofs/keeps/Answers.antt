@@ -1,7 +1,6 @@
 -- `keeps` is the test of its class: in each arm the class is known, and the byte's own test answers.
 use mathlib.Core.Path.{ap}
 use mathlib.Core.Bool.{not}
-use borrow.Author.Rules.{rules}
 use Rattle.texts.specs.Codes.{kept}
 use Rattle.texts.proofs.keeps.Goals as goal
 

@@ -3,7 +3,6 @@ use mathlib.Core.Path.{refl}
 use native.Mathlib.Nat.{zero-add}
 use native.Mathlib.Omega.{arith}
 use lib.ListN.{length}
-use borrow.Author.Rules.{rules}
 use Rattle.paper.specs.Sizes.{entry_most}
 use Rattle.paper.specs.Texts.{plain_gives}
 use Rattle.paper.proofs.Numerals.{length_decimal}

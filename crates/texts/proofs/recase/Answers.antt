@@ -1,12 +1,9 @@
 -- `recase` turns each byte by its case, knowing whether a letter stands before it. The loop's invariant: the rest, turned, goes behind what is written.
 --
 use mathlib.Core.Bool.{false}
-use Prim.Native.Nat.{◌≤◌, ◌-◌}
 use native.Mathlib.Omega.{arith}
-use lib.ListN.{length, drop}
-use borrow.Author.Rules.{rules}
-use Rattle.texts.proofs.Laws.{cased, cased_next, cased_none, cased_fits, recase_gives}
-use Rattle.texts.proofs.Writing.{Progress, begun, put, onto, answered}
+use Rattle.texts.proofs.Laws.{cased_next, cased_none, cased_fits, recase_gives}
+use Rattle.texts.proofs.Writing.{begun, put, onto, answered}
 use Rattle.texts.proofs.recase.Goals as goal
 
 pub loop-i-init : goal.loop-i-init

@@ -1,10 +1,8 @@
 use mathlib.Core.Bool.{false}
 use Prim.Native.Nat.{◌≤◌, ◌-◌}
-use native.Mathlib.Omega.{arith}
 use lib.ListN.{length, drop}
-use borrow.Author.Rules.{rules}
-use Rattle.texts.proofs.Laws.{cased, cased_next, cased_none, cased_fits, recase_gives}
-use Rattle.texts.proofs.Writing.{Progress, begun, put, onto, answered}
+use Rattle.texts.proofs.Laws.{cased}
+use Rattle.texts.proofs.Writing.{Progress}
 use Rattle.texts.proofs.recase.Given as goal
 
 abbrev pub invariant-loop-i : goal.invariant-loop-i

@@ -1,7 +1,6 @@
 -- `turn` writes a byte in the case asked for: in each arm the case is known, and for a letter of MCT its bit answers.
 use mathlib.Core.Path.{sym, ◌∙◌}
 use native.Mathlib.Omega.{arith}
-use borrow.Author.Rules.{rules}
 use Rattle.texts.specs.Codes.{turned}
 use Rattle.texts.proofs.Cases.{letter_cases, other_case}
 use Rattle.texts.proofs.turn.Goals as goal

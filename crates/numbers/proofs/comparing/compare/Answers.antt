@@ -1,6 +1,5 @@
 -- `comparing::compare` meets its contract, by the forms of both.
 use mathlib.Core.Path.{sym, ap, ◌∙◌}
-use borrow.Author.Rules.{rules}
 use Rattle.paper.specs.Refusals.{given}
 use Rattle.numbers.specs.Forms.{form_gives}
 use Rattle.numbers.specs.Orders.{compared_gives}

@@ -1,9 +1,7 @@
 -- `comparing::compare_bytes` meets its contract. The invariant: what is left of both stands as both do.
-use mathlib.Core.Path.{◌≡◌, refl, ◌∙◌}
-use Prim.Native.Nat.{◌-◌, ◌≤◌}
+use mathlib.Core.Path.{refl, ◌∙◌}
 use native.Mathlib.Omega.{arith}
-use lib.ListN.{length, drop}
-use Rattle.numbers.specs.Orders.{order_of, bytes_order}
+use Rattle.numbers.specs.Orders.{order_of}
 use Rattle.numbers.proofs.ComparingLaws.{same_byte, other_byte, longer, ended}
 use Rattle.numbers.proofs.comparing.compare_bytes.Goals as goal
 

@@ -1,9 +1,7 @@
-use mathlib.Core.Path.{◌≡◌, refl, ◌∙◌}
+use mathlib.Core.Path.{◌≡◌}
 use Prim.Native.Nat.{◌-◌, ◌≤◌}
-use native.Mathlib.Omega.{arith}
 use lib.ListN.{length, drop}
-use Rattle.numbers.specs.Orders.{order_of, bytes_order}
-use Rattle.numbers.proofs.ComparingLaws.{same_byte, other_byte, longer, ended}
+use Rattle.numbers.specs.Orders.{bytes_order}
 use Rattle.numbers.proofs.comparing.compare_bytes.Given as goal
 
 abbrev pub invariant-loop-i : goal.invariant-loop-i

@@ -1,6 +1,5 @@
 -- `comparing::compare_forms` meets its contract: a refusal passed up, the second entry's first, or the order of two numbers.
 use mathlib.Core.Path.{refl, ap}
-use borrow.Author.Rules.{rules}
 use Rattle.paper.specs.Refusals.{given}
 use Rattle.numbers.specs.Orders.{compared_gives, numbers_order}
 use Rattle.numbers.proofs.FormLaws.{a_number, passed_up}

@@ -1,6 +1,5 @@
 -- `comparing::compare_numbers` meets its contract.
 use mathlib.Core.Path.{sym, ◌∙◌}
-use borrow.Author.Rules.{rules}
 use Rattle.numbers.specs.Orders.{order_of}
 use Rattle.numbers.proofs.comparing.compare_numbers.Goals as goal
 

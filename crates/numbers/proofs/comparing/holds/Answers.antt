@@ -1,7 +1,6 @@
 -- `comparing::holds` meets its contract: the rank stands to 1 as each relation asks.
 use mathlib.Core.Path.{◌≡◌}
 use Prim.Native.Nat.{ℕ}
-use borrow.Author.Rules.{rules}
 use Rattle.paper.specs.Numbers.{holds}
 use Rattle.codes.specs.declared.Relation.{Relation}
 use Rattle.codes.specs.Meaning.{relation_of}

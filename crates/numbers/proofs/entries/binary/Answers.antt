@@ -1,7 +1,6 @@
 -- `entries::binary` meets its contract: each operator's own.
 use mathlib.Core.Path.{ap}
 use native.Mathlib.Omega.{arith}
-use borrow.Author.Rules.{rules}
 use Rattle.codes.specs.Meaning.{operator_of}
 use Rattle.numbers.specs.Operators.{scale_of}
 use Rattle.numbers.proofs.entries.binary.Goals as goal

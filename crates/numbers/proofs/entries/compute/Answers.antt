@@ -1,7 +1,6 @@
 -- `entries::compute` meets its contract: a refusal passed up, or the text of a number.
 use mathlib.Core.Path.{◌∙◌}
 use native.Mathlib.Omega.{arith}
-use borrow.Author.Rules.{rules}
 use Rattle.paper.specs.Sizes.{entry_most}
 use Rattle.paper.specs.Numbers.{number_text}
 use Rattle.paper.proofs.Predicates.{held_by}

@@ -3,7 +3,6 @@ use mathlib.Core.Path.{refl, ap, ◌∙◌}
 use Prim.Native.Nat.{ℕ, ◌+◌, ◌-◌, min}
 use native.Mathlib.Omega.{arith}
 use lib.ListN.{length, drop, length-take}
-use borrow.Author.Rules.{rules}
 use Rattle.paper.specs.Sizes.{entry_most}
 use Rattle.paper.proofs.Limits.{entry_limit, limited_within, limited_over, refuses_with, gives_bytes}
 use Rattle.lent.proofs.Laws.{over_front}

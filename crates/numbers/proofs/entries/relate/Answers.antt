@@ -2,7 +2,6 @@
 use mathlib.Core.Path.{refl, sym, ap, ◌∙◌}
 use mathlib.Core.List.{[], ◌∷◌}
 use native.Mathlib.Omega.{arith}
-use borrow.Author.Rules.{rules}
 use Rattle.paper.specs.Sizes.{entry_most}
 use Rattle.paper.specs.Refusals.{given}
 use Rattle.paper.specs.Numbers.{binary_gives}

@@ -1,5 +1,4 @@
 -- `entries::skipped` meets its contract.
-use native.Mathlib.Omega.{arith}
 use Rattle.std.proofs.Common.{sub-one}
 use Rattle.numbers.proofs.entries.skipped.Goals as goal
 

@@ -1,5 +1,4 @@
 -- `entries::substring` meets its contract: the start's range, the count's, and then the part.
-use borrow.Author.Rules.{rules}
 use Rattle.paper.specs.Sizes.{entry_most}
 use Rattle.paper.specs.Numbers.{substring_gives}
 use Rattle.paper.proofs.Limits.{limited_refused, refuses_with}

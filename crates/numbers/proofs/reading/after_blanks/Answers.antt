@@ -1,10 +1,7 @@
 -- `reading::after_blanks` meets its contract: no blank is left out that stands after another byte.
-use mathlib.Core.Path.{◌≡◌, refl, ◌∙◌}
+use mathlib.Core.Path.{refl, ◌∙◌}
 use borrow.Author.Tests.{eq-eqb, ne_eqb}
-use Prim.Native.Nat.{◌-◌, ◌≤◌}
 use native.Mathlib.Omega.{arith}
-use lib.ListN.{length, drop}
-use Rattle.paper.specs.Numbers.{after_blanks}
 use Rattle.lent.proofs.Scans.{whole_rest}
 use Rattle.numbers.proofs.ReadingLaws.{blank_goes, front_found, front_end}
 use Rattle.numbers.proofs.reading.after_blanks.Goals as goal
@@ -25,7 +22,7 @@ returns c =
     let l = c.loop-i in
     whole_rest s l.i
     ∙ elim c.loop-i-test.branch [
-      then-loop-i-test+else-s-i-eq32 w ↦ front_found s l.i w.loop-i-test.true (ne_eqb _ _ w.if-s-i-eq32.false)
-    | else-loop-i-test w ↦ front_end s l.i w.loop-i-test.false
+      | then-loop-i-test+else-s-i-eq32 w ↦ front_found s l.i w.loop-i-test.true (ne_eqb _ _ w.if-s-i-eq32.false)
+      | else-loop-i-test w ↦ front_end s l.i w.loop-i-test.false
     ]
     ∙ l.invariant.1

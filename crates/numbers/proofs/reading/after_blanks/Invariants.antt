@@ -1,11 +1,7 @@
-use mathlib.Core.Path.{◌≡◌, refl, ◌∙◌}
-use mathlib.Core.Logic.{⊎_elim}
+use mathlib.Core.Path.{◌≡◌}
 use Prim.Native.Nat.{◌-◌, ◌≤◌}
-use native.Mathlib.Omega.{arith}
 use lib.ListN.{length, drop}
 use Rattle.paper.specs.Numbers.{after_blanks}
-use Rattle.lent.proofs.Scans.{whole_rest}
-use Rattle.numbers.proofs.ReadingLaws.{blank_goes, front_found, front_end}
 use Rattle.numbers.proofs.reading.after_blanks.Given as goal
 
 abbrev pub invariant-loop-i : goal.invariant-loop-i

@@ -1,10 +1,9 @@
 -- `reading::before_blanks` meets its contract: no blank is left out that stands before another byte.
-use mathlib.Core.Path.{◌≡◌, ap, ◌∙◌}
+use mathlib.Core.Path.{ap, ◌∙◌}
 use borrow.Author.Tests.{eq-eqb, ne_eqb}
-use Prim.Native.Nat.{◌≤◌}
 use native.Mathlib.Nat.{sub-zero}
 use native.Mathlib.Omega.{arith}
-use lib.ListN.{length, take}
+use lib.ListN.{take}
 use lib.Seq.{take-length}
 use Rattle.paper.specs.Numbers.{before_blanks}
 use Rattle.numbers.proofs.ReadingLaws.{blank_left, back_found, back_end}
@@ -26,7 +25,7 @@ returns c =
     let l = c.loop-end in
     ap (λ n. take n s) (sub-zero l.end)
     ∙ elim c.loop-end-test.branch [
-      then-loop-end-test+else-s-end-eq32 w ↦ back_found s l.end w.loop-end-test.true l.invariant.0 (ne_eqb _ _ w.if-s-end-eq32.false)
-    | else-loop-end-test w ↦ back_end s l.end w.loop-end-test.false
+      | then-loop-end-test+else-s-end-eq32 w ↦ back_found s l.end w.loop-end-test.true l.invariant.0 (ne_eqb _ _ w.if-s-end-eq32.false)
+      | else-loop-end-test w ↦ back_end s l.end w.loop-end-test.false
     ]
     ∙ l.invariant.1

@@ -1,12 +1,7 @@
-use mathlib.Core.Path.{◌≡◌, ap, ◌∙◌}
-use mathlib.Core.Logic.{⊎_elim}
+use mathlib.Core.Path.{◌≡◌}
 use Prim.Native.Nat.{◌≤◌}
-use native.Mathlib.Nat.{sub-zero}
-use native.Mathlib.Omega.{arith}
 use lib.ListN.{length, take}
-use lib.Seq.{take-length}
 use Rattle.paper.specs.Numbers.{before_blanks}
-use Rattle.numbers.proofs.ReadingLaws.{blank_left, back_found, back_end}
 use Rattle.numbers.proofs.reading.before_blanks.Given as goal
 
 abbrev pub invariant-loop-end : goal.invariant-loop-end

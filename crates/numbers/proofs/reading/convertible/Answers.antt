@@ -1,6 +1,5 @@
 -- `reading::convertible` meets its contract, by the element's form.
 use mathlib.Core.Path.{sym, ap, ◌∙◌}
-use borrow.Author.Rules.{rules}
 use Rattle.paper.specs.Numbers.{numeric}
 use Rattle.numbers.specs.Forms.{reckoned_gives, form_gives}
 use Rattle.numbers.proofs.FormLaws.{numeric_converts, other_refused}

@@ -1,5 +1,4 @@
 -- `reading::raised` meets its contract: one digit more, or the size as it is.
-use borrow.Author.Rules.{rules}
 use borrow.Author.Tests.{le-leb, lt-leb}
 use Rattle.paper.specs.Bytes.{digit_value}
 use Rattle.paper.specs.Sizes.{number_most}

@@ -1,11 +1,11 @@
 -- `reading::value_from` meets its contract. The invariant: what is left gives, from the size so far, what all gives from 0.
 --
-use mathlib.Core.Path.{◌≡◌, refl, ◌∙◌, ap}
+use mathlib.Core.Path.{refl, ◌∙◌, ap}
 use mathlib.Core.Logic.{inl, inr}
 use mathlib.Core.Option.{some}
-use Prim.Native.Nat.{ℕ, ◌+◌, ◌-◌, ◌≤◌}
+use Prim.Native.Nat.{ℕ, ◌+◌}
 use native.Mathlib.Omega.{arith}
-use lib.ListN.{length, drop}
+use lib.ListN.{drop}
 use Rattle.paper.specs.Numbers.{value, ranged}
 use Rattle.numbers.specs.Forms.{form_gives}
 use Rattle.numbers.specs.Scans.{value_form}

@@ -1,13 +1,8 @@
-use mathlib.Core.Path.{◌≡◌, refl, ◌∙◌, ap}
-use mathlib.Core.Logic.{inl, inr}
-use mathlib.Core.Option.{some}
-use Prim.Native.Nat.{ℕ, ◌+◌, ◌-◌, ◌≤◌}
-use native.Mathlib.Omega.{arith}
+use mathlib.Core.Path.{◌≡◌}
+use Prim.Native.Nat.{◌-◌, ◌≤◌}
 use lib.ListN.{length, drop}
-use Rattle.paper.specs.Numbers.{value, ranged}
-use Rattle.numbers.specs.Forms.{form_gives}
+use Rattle.paper.specs.Numbers.{value}
 use Rattle.numbers.specs.Scans.{value_form}
-use Rattle.numbers.proofs.ReadingLaws.{digit_goes, other_ends, at_end}
 use Rattle.numbers.proofs.reading.value_from.Given as goal
 
 abbrev pub invariant-loop-i : goal.invariant-loop-i

@@ -1,6 +1,5 @@
 -- `reading::within_blanks` meets its contract: a text with no blank at either end is handed back as it is.
 use mathlib.Core.Path.{ap, ◌∙◌}
-use borrow.Author.Rules.{rules}
 use Rattle.paper.specs.Numbers.{before_blanks, within_blanks}
 use Rattle.numbers.proofs.ReadingLaws.{nothing_within, nothing_around}
 use Rattle.numbers.proofs.reading.within_blanks.Goals as goal

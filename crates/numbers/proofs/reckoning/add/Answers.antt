@@ -1,6 +1,5 @@
 -- `reckoning::add` meets its contract.
 use mathlib.Core.Path.{◌∙◌, ap}
-use borrow.Author.Rules.{rules}
 use Rattle.paper.specs.Numbers.{ranged}
 use Rattle.numbers.specs.Reckonings.{operated, reckoning}
 use Rattle.numbers.proofs.reckoning.add.Goals as goal

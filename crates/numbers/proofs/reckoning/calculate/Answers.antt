@@ -1,6 +1,5 @@
 -- `reckoning::calculate` meets its contract: the second entry's range, the top's, and then what both give.
 use mathlib.Core.Path.{◌∙◌}
-use borrow.Author.Rules.{rules}
 use Rattle.paper.specs.Numbers.{number}
 use Rattle.paper.proofs.Predicates.{held_by}
 use Rattle.numbers.specs.Forms.{reckoned_gives}

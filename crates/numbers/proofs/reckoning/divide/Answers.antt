@@ -1,6 +1,5 @@
 -- `reckoning::divide` meets its contract.
 use mathlib.Core.Path.{◌∙◌, ap}
-use borrow.Author.Rules.{rules}
 use borrow.Author.Tests.{eq-eqb, ne_eqb}
 use Rattle.paper.specs.Numbers.{ranged}
 use Rattle.numbers.specs.Forms.{reckoned_gives}

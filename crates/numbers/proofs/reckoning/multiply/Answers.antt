@@ -2,7 +2,6 @@
 use mathlib.Core.Path.{sym, ◌∙◌}
 use Prim.Native.Nat.{◌*◌, ◌≤◌}
 use native.Mathlib.Omega.{arith}
-use borrow.Author.Rules.{rules}
 use borrow.Author.Tests.{ltb-true, ltb-false, lt-leb}
 use Rattle.paper.specs.Sizes.{number_most}
 use Rattle.paper.specs.Numbers.{signed, natural, ranged, times}

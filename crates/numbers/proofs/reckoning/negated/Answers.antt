@@ -1,5 +1,4 @@
 -- `reckoning::negated` meets its contract.
-use borrow.Author.Rules.{rules}
 use Rattle.paper.specs.Numbers.{negated}
 use Rattle.numbers.proofs.reckoning.negated.Goals as goal
 

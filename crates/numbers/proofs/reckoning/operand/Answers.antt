@@ -1,6 +1,5 @@
 -- `reckoning::operand` meets its contract, by the entry's form.
 use mathlib.Core.Path.{sym, ap, ◌∙◌}
-use borrow.Author.Rules.{rules}
 use Rattle.paper.specs.Numbers.{natural, number, numeric}
 use Rattle.numbers.specs.Forms.{reckoned_gives, form_gives}
 use Rattle.numbers.proofs.ReckoningLaws.{numeric_operand, other_operand}

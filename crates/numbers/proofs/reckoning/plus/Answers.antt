@@ -1,6 +1,5 @@
 -- `reckoning::plus` meets its contract, by the signs and sizes of both.
 use mathlib.Core.Path.{sym, ◌∙◌}
-use borrow.Author.Rules.{rules}
 use borrow.Author.Tests.{le-leb, lt-leb}
 use Rattle.paper.specs.Numbers.{plus}
 use Rattle.numbers.proofs.reckoning.plus.Goals as goal

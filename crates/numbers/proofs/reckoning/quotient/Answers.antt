@@ -1,6 +1,5 @@
 -- `reckoning::quotient` meets its contract.
 use mathlib.Core.Path.{◌∙◌}
-use borrow.Author.Rules.{rules}
 use Rattle.paper.specs.Numbers.{quotient}
 use Rattle.numbers.proofs.reckoning.quotient.Goals as goal
 

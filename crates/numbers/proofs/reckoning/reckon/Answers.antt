@@ -1,7 +1,6 @@
 -- `reckoning::reckon` meets its contract: each operation's own.
 use mathlib.Core.Path.{ap}
 use native.Mathlib.Omega.{arith}
-use borrow.Author.Rules.{rules}
 use Rattle.numbers.specs.Operators.{scales}
 use Rattle.numbers.proofs.reckoning.reckon.Goals as goal
 

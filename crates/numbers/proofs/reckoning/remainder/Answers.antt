@@ -1,5 +1,4 @@
 -- `reckoning::remainder` meets its contract.
-use borrow.Author.Rules.{rules}
 use Rattle.paper.specs.Numbers.{remainder}
 use Rattle.numbers.proofs.reckoning.remainder.Goals as goal
 

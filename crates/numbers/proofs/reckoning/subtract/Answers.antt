@@ -1,8 +1,7 @@
 -- `reckoning::subtract` meets its contract.
 use mathlib.Core.Path.{◌∙◌, ap}
 use native.Mathlib.Omega.{arith}
-use borrow.Author.Rules.{rules}
-use Rattle.paper.specs.Numbers.{Number, signed, ranged, plus, negated}
+use Rattle.paper.specs.Numbers.{Number, signed, ranged, negated}
 use Rattle.numbers.specs.Reckonings.{operated, reckoning}
 use Rattle.numbers.proofs.reckoning.subtract.Goals as goal
 

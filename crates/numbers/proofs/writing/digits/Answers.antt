@@ -1,11 +1,9 @@
 -- `writing::digits` meets its contract. The invariant: the i digits that are left, before what is written behind them, are all k digits
 -- before what stood behind them, and nothing in front is touched.
-use mathlib.Core.List.{◌++◌}
-use mathlib.Core.Path.{◌≡◌, refl, ◌∙◌}
-use Prim.Native.Nat.{◌+◌, ◌-◌, ◌%◌, ◌≤◌}
+use mathlib.Core.Path.{refl, ◌∙◌}
+use Prim.Native.Nat.{◌+◌, ◌-◌, ◌%◌}
 use native.Mathlib.Omega.{arith}
-use lib.ListN.{length, take, drop, length-set}
-use Rattle.paper.specs.Numbers.{digits}
+use lib.ListN.{length-set}
 use Rattle.numbers.proofs.WritingLaws.{digit_back, take_back, all_back}
 use Rattle.numbers.proofs.writing.digits.Goals as goal
 

@@ -1,10 +1,8 @@
 use mathlib.Core.List.{◌++◌}
-use mathlib.Core.Path.{◌≡◌, refl, ◌∙◌}
-use Prim.Native.Nat.{◌+◌, ◌-◌, ◌%◌, ◌≤◌}
-use native.Mathlib.Omega.{arith}
-use lib.ListN.{length, take, drop, length-set}
+use mathlib.Core.Path.{◌≡◌}
+use Prim.Native.Nat.{◌+◌, ◌≤◌}
+use lib.ListN.{length, take, drop}
 use Rattle.paper.specs.Numbers.{digits}
-use Rattle.numbers.proofs.WritingLaws.{digit_back, take_back, all_back}
 use Rattle.numbers.proofs.writing.digits.Given as goal
 
 abbrev pub invariant-loop-i : goal.invariant-loop-i

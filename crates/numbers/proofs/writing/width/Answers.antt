@@ -1,7 +1,6 @@
 -- `writing::width` meets its contract. The invariant: the size has at least k digits.
-use mathlib.Core.Path.{◌≡◌, refl}
-use mathlib.Core.Logic.{◌⊎◌, inl, inr}
-use Prim.Native.Nat.{◌-◌, ◌^◌, ◌≤◌}
+use mathlib.Core.Path.{refl}
+use mathlib.Core.Logic.{inl, inr}
 use native.Mathlib.Omega.{arith}
 use Rattle.numbers.proofs.WritingLaws.{widened, one_more, all_digits}
 use Rattle.numbers.proofs.writing.width.Goals as goal

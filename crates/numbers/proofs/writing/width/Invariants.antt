@@ -1,8 +1,6 @@
-use mathlib.Core.Path.{◌≡◌, refl}
-use mathlib.Core.Logic.{◌⊎◌, inl, inr}
+use mathlib.Core.Path.{◌≡◌}
+use mathlib.Core.Logic.{◌⊎◌}
 use Prim.Native.Nat.{◌-◌, ◌^◌, ◌≤◌}
-use native.Mathlib.Omega.{arith}
-use Rattle.numbers.proofs.WritingLaws.{widened, one_more, all_digits}
 use Rattle.numbers.proofs.writing.width.Given as goal
 
 abbrev pub invariant-loop-k : goal.invariant-loop-k

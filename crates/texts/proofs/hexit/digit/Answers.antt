@@ -1,5 +1,4 @@
 -- `hexit::digit` writes a hex digit, by its range.
-use borrow.Author.Rules.{rules}
 use borrow.Author.Tests.{lt-ltb, le-ltb}
 use Rattle.paper.specs.Texts.{hex_digit}
 use Rattle.texts.proofs.hexit.digit.Goals as goal

@@ -1,5 +1,4 @@
 -- `hexit::is_other` tells the bytes that are no hex digits: digits, capitals and small letters are.
-use borrow.Author.Rules.{rules}
 use Rattle.paper.specs.Bytes.{is_digit, within}
 use Rattle.paper.specs.Texts.{hex_value}
 use Rattle.texts.specs.Scans.{is_other}

@@ -1,5 +1,4 @@
 -- `letter::is_letter` tells the letters: capitals and lower_case ones.
-use borrow.Author.Rules.{rules}
 use Rattle.paper.specs.Bytes.{is_letter}
 use Rattle.texts.proofs.letter.is_letter.Goals as goal
 

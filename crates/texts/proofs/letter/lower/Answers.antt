@@ -1,5 +1,4 @@
 -- `letter::lower` gives a capital as its lower_case letter, and any other byte as it is.
-use borrow.Author.Rules.{rules}
 use Rattle.paper.specs.Bytes.{is_upper}
 use Rattle.paper.specs.Texts.{lowered}
 use Rattle.paper.proofs.Ranges.{within_yes, within_below, within_above}

@@ -1,5 +1,4 @@
 -- `letter::raise` gives a lower_case letter as its capital, and any other byte as it is.
-use borrow.Author.Rules.{rules}
 use Rattle.paper.specs.Bytes.{is_lower}
 use Rattle.paper.specs.Texts.{raised}
 use Rattle.paper.proofs.Ranges.{within_yes, within_below, within_above}

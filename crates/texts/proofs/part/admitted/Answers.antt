@@ -2,7 +2,6 @@
 use mathlib.Core.Path.{◌∙◌}
 use native.Mathlib.Omega.{arith}
 use lib.ListN.{length}
-use borrow.Author.Rules.{rules}
 use Rattle.paper.proofs.Ranges.{within_yes, within_below, within_above}
 use Rattle.texts.proofs.part.admitted.Goals as goal
 

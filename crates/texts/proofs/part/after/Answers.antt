@@ -2,7 +2,6 @@
 use mathlib.Core.Path.{sym, ◌∙◌}
 use lib.ListN.{length, drop_of_length-le}
 use lib.Seq.{drop-length}
-use borrow.Author.Rules.{rules}
 use Rattle.lent.proofs.Scans.{whole_rest}
 use Rattle.texts.proofs.part.after.Goals as goal
 

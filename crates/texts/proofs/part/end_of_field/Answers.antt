@@ -1,11 +1,7 @@
 -- `part::end_of_field` passes the separators asked for and stops at the next one. The loop's invariant: the place is i plus where the rest ends.
 --
-use mathlib.Core.Path.{◌≡◌, sym, ◌∙◌}
-use mathlib.Core.Logic.{⊎_elim}
-use Prim.Native.Nat.{◌+◌, ◌≤◌, ◌-◌}
+use mathlib.Core.Path.{sym, ◌∙◌}
 use native.Mathlib.Omega.{arith}
-use lib.ListN.{length, drop}
-use Rattle.texts.specs.Scans.{field_end}
 use Rattle.texts.proofs.Fields.{field_stops, field_over, field_goes, field_passes}
 use Rattle.texts.proofs.part.end_of_field.Goals as goal
 use Rattle.texts.proofs.part.end_of_field.Goals.{then-e-i+else-left-eq0, else-e-i}
@@ -26,8 +22,8 @@ loop-i-preserved c =
     let x = c.args.separator in (
       omega arith,
       elim c.if-e-i.branch [
-        then-e-i+else-left-eq0 w ↦ rw w.left-is (sym (field_passes x e at.i at.left c.loop-i-test.true w.if-e-i.true (omega (arith, w.if-left-eq0.false))) ∙ at.invariant.1)
-      | else-e-i w ↦ rw w.left-is (sym (field_goes x e at.i at.left c.loop-i-test.true w.if-e-i.false) ∙ at.invariant.1)
+        | then-e-i+else-left-eq0 w ↦ rw w.left-is (sym (field_passes x e at.i at.left c.loop-i-test.true w.if-e-i.true (omega (arith, w.if-left-eq0.false))) ∙ at.invariant.1)
+        | else-e-i w ↦ rw w.left-is (sym (field_goes x e at.i at.left c.loop-i-test.true w.if-e-i.false) ∙ at.invariant.1)
       ],
     )
 

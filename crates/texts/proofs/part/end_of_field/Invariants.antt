@@ -1,10 +1,7 @@
-use mathlib.Core.Path.{◌≡◌, sym, ◌∙◌}
-use mathlib.Core.Logic.{⊎_elim}
+use mathlib.Core.Path.{◌≡◌}
 use Prim.Native.Nat.{◌+◌, ◌≤◌, ◌-◌}
-use native.Mathlib.Omega.{arith}
 use lib.ListN.{length, drop}
 use Rattle.texts.specs.Scans.{field_end}
-use Rattle.texts.proofs.Fields.{field_stops, field_over, field_goes, field_passes}
 use Rattle.texts.proofs.part.end_of_field.Given as goal
 
 abbrev pub invariant-loop-i : goal.invariant-loop-i

@@ -4,7 +4,6 @@ use Prim.Native.Nat.{ℕ}
 use native.Mathlib.Nat.{sub-zero}
 use lib.ListN.{take}
 use lib.Seq.{take_all}
-use borrow.Author.Rules.{rules}
 use Rattle.texts.proofs.part.front.Goals as goal
 
 pub returns-then-e-count : goal.returns-then-e-count

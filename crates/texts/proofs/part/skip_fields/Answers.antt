@@ -3,7 +3,6 @@ use mathlib.Core.Path.{sym, ap, ◌∙◌}
 use Prim.Native.Nat.{ℕ, ◌+◌, ◌-◌}
 use native.Mathlib.Omega.{arith}
 use lib.ListN.{drop}
-use borrow.Author.Rules.{rules}
 use Rattle.texts.specs.Scans.{fields_after}
 use Rattle.texts.proofs.Fields.{skips_some, field_end_fits}
 use Rattle.texts.proofs.part.skip_fields.Goals as goal

@@ -3,7 +3,6 @@ use mathlib.Core.Path.{sym, ap, ◌∙◌}
 use Prim.Native.Nat.{ℕ}
 use native.Mathlib.Omega.{arith}
 use lib.ListN.{take}
-use borrow.Author.Rules.{rules}
 use Rattle.texts.specs.Scans.{first_fields}
 use Rattle.texts.proofs.Fields.{takes_some}
 use Rattle.texts.proofs.part.take_fields.Goals as goal
