@@ -2,6 +2,7 @@
 // `answer` goes from the bytes read to the bytes written, and is the paper's `program` on every input.
 // `main` only reads and writes; what the system hands over is not part of any statement.
 #![tactic(auto)]
+
 ghost use Rattle.std.specs.Prelude.{◌≡◌, map, ◌+◌, ◌≤◌, length, drop};
 ghost use Rattle.paper.specs.Sizes.{number_digits, number_most, record_most};
 ghost use Rattle.paper.specs.Program.{drawn, program};

@@ -4,10 +4,9 @@ use native.Mathlib.Omega.{arith}
 use mathlib.Core.Path.{◌≡◌, ap, ◌∙◌}
 use mathlib.Core.List.{[], ◌∷◌, ◌++◌}
 use lib.ListN.{length, take, drop, length-append}
-use Rattle.paper.specs.Bytes.{Bytes, ch, buffer}
+use Rattle.paper.specs.Bytes.{Bytes, ch}
 use Rattle.paper.specs.Sizes.{number_most, code_most}
 use Rattle.paper.specs.Refusals.{Res, refusal_of, answer_of}
-use Rattle.paper.specs.Answers.{given_of}
 use Rattle.paper.specs.Numbers.{decimal}
 use Rattle.paper.specs.Converting.{fitted}
 use Rattle.paper.specs.Program.{line, program_reads}
@@ -20,7 +19,7 @@ use Rattle.lent.proofs.Laws.{length_over}
 use Rattle.lent.proofs.Pieces.{piece_here}
 use Rattle.algebra.specs.Showing.{shown_text, show}
 use Rattle.algebra.proofs.Meaning.{Refusal, over_long, unread, overfull, no_room, show_refusal}
-use Rattle.algebra.proofs.Telling.{refused_is, given_is, handed_told}
+use Rattle.algebra.proofs.Telling.{Handed, refused_is, given_is, handed_told}
 use Rattle.formula.specs.Formula.{told, formula, line_most}
 
 -- "line 1 the code"
@@ -33,8 +32,8 @@ first_line input {read} e f = piece_here 10 read 0 (omega arith) f ∙ ap (piece
 module _ (input read : Bytes) (end : ℕ) (e : read ≡ take program_reads input) (f : end ≡ 0 + length (upto 10 10 (drop 0 read))) (room : ℕ)
     (g : room ≡ code_most)
     {r : Given} (out : Bytes)
-    (h : (r ≡ given_of (show (take (end - 0) (drop 0 read)) room)) × (out ≡ buffer room (answer_of (show (take (end - 0) (drop 0 read)) room)))) where
-  shown : (r ≡ given_of (show (line 0 input) code_most)) × (out ≡ buffer code_most (answer_of (show (line 0 input) code_most)))
+    (h : Handed room (show (take (end - 0) (drop 0 read)) room) r out) where
+  shown : Handed code_most (show (line 0 input) code_most) r out
   shown = rw (first_line input e f, g) at h
 
   pub showed_text : {n : ℕ} → r ≡ Given.Length n → (told 0 (take n out) ≡ formula input) × (n ≤ length out)

@@ -2,6 +2,7 @@
 // `answer` goes from the bytes read to the bytes written, and is `formula` of specs/ on every input.
 // `main` only reads and writes; what the system hands over is not part of any statement.
 #![tactic(auto)]
+
 ghost use Rattle.std.specs.Prelude.{◌≡◌, ◌≤◌, length};
 ghost use Rattle.paper.specs.Sizes.{number_most, code_most};
 ghost use Rattle.lent.specs.Over.{over};

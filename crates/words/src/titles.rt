@@ -2,6 +2,8 @@
 // check than a call.
 use crate::showing::say;
 use cases::field;
+use std::io;
+use std::io::Write;
 
 pub(crate) const REFUSAL: u64 = 0;
 
@@ -29,8 +31,8 @@ pub(crate) const DAY: u64 = 11;
 
 pub(crate) const CEILING: u64 = 12;
 
-pub(crate) fn say_title(title: u64) {
+pub(crate) fn say_title<W: Write>(out: &mut W, title: u64) -> io::Result<()> {
     let titles =
         b"refusal = |, code = |, A = |, B = |, P = |, T = |, found = |, start = |, length = |, part = |, record = |, day = |, ceiling = ";
-    say(field(titles, title, b'|'));
+    say(out, field(titles, title, b'|'))
 }

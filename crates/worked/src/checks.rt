@@ -3,20 +3,22 @@
 use crate::showing::say_titled;
 use crate::words;
 use judging::{Counts, Verdict};
+use std::io;
+use std::io::Write;
 
-fn say_report(number: u64, code: u64, counts: Counts) {
-    say_titled(words::COLON, number);
-    say_titled(words::BLANK, code);
-    say_titled(words::BLANK, counts.loads);
-    say_titled(words::BLANK, counts.others);
-    say_titled(words::BLANK, counts.patterns);
-    say_titled(words::BLANK, counts.tests);
+fn say_report<W: Write>(out: &mut W, number: u64, code: u64, counts: Counts) -> io::Result<()> {
+    say_titled(out, words::COLON, number)?;
+    say_titled(out, words::BLANK, code)?;
+    say_titled(out, words::BLANK, counts.loads)?;
+    say_titled(out, words::BLANK, counts.others)?;
+    say_titled(out, words::BLANK, counts.patterns)?;
+    say_titled(out, words::BLANK, counts.tests)
 }
 
 // "A number not given here, by any call, is 0."
-pub(crate) fn show(string: &[u8]) {
+pub(crate) fn show<W: Write>(out: &mut W, string: &[u8]) -> io::Result<()> {
     match judging::check(string) {
-        Verdict::Accepted(counts) => say_report(0, 0, counts),
+        Verdict::Accepted(counts) => say_report(out, 0, 0, counts),
         Verdict::Refused { number, code } => {
             let none = Counts {
                 loads: 0,
@@ -24,7 +26,7 @@ pub(crate) fn show(string: &[u8]) {
                 patterns: 0,
                 tests: 0,
             };
-            say_report(number, code, none)
+            say_report(out, number, code, none)
         }
     }
 }

@@ -4,16 +4,18 @@ use crate::words;
 use crate::words::say_word;
 use cases::field;
 use dates::TypedDay;
+use std::io;
+use std::io::Write;
 
-pub(crate) fn show(line: &[u8]) {
+pub(crate) fn show<W: Write>(out: &mut W, line: &[u8]) -> io::Result<()> {
     match typed::typed_date(field(line, 0, b'|'), field(line, 1, b'|')) {
         TypedDay::Day { negative, size } => {
-            say_word(words::DAY);
+            say_word(out, words::DAY)?;
             if negative {
-                say_byte(b'-');
+                say_byte(out, b'-')?;
             }
-            say_number(size);
+            say_number(out, size)
         }
-        TypedDay::Refused(n) => say_titled(words::REFUSED, n),
+        TypedDay::Refused(n) => say_titled(out, words::REFUSED, n),
     }
 }

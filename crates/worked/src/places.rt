@@ -7,54 +7,62 @@ use cases::first_byte;
 use cases::lines::{length_or, lent_room, spelled_field, typed_address};
 use paper::{Given, Limit};
 use records::Found;
+use std::io;
+use std::io::Write;
 
-fn say_found(found: Found) {
+fn say_found<W: Write>(to: &mut W, found: Found) -> io::Result<()> {
     match found {
         Found::At { start, len } => {
-            say_titled(words::AT, start as u64);
-            say_titled(words::PART_LENGTH, len as u64);
+            say_titled(to, words::AT, start as u64)?;
+            say_titled(to, words::PART_LENGTH, len as u64)
         }
-        Found::Missing => say_word(words::MISSING),
-        Found::Refused(n) => say_titled(words::REFUSED, n),
+        Found::Missing => say_word(to, words::MISSING),
+        Found::Refused(n) => say_titled(to, words::REFUSED, n),
     }
 }
 
-fn say_given(given: Given) {
+fn say_given<W: Write>(to: &mut W, given: Given) -> io::Result<()> {
     match given {
-        Given::Length(n) => say_titled(words::LENGTH, n as u64),
-        Given::Refused(n) => say_titled(words::REFUSED, n),
+        Given::Length(n) => say_titled(to, words::LENGTH, n as u64),
+        Given::Refused(n) => say_titled(to, words::REFUSED, n),
     }
 }
 
-fn find(line: &[u8], item: &[u8]) {
+fn find<W: Write>(to: &mut W, line: &[u8], item: &[u8]) -> io::Result<()> {
     let at = typed_address(line);
-    say_found(records::find(item, at.a, at.v, at.s));
-    say_text(words::COMMA, records::extract(item, at.a, at.v, at.s));
+    say_found(to, records::find(item, at.a, at.v, at.s))?;
+    say_text(to, words::COMMA, records::extract(item, at.a, at.v, at.s))
 }
 
-fn replace(line: &[u8], item: &[u8], new: &[u8], out: &mut [u8]) {
+fn replace<W: Write>(
+    to: &mut W,
+    line: &[u8],
+    item: &[u8],
+    new: &[u8],
+    out: &mut [u8],
+) -> io::Result<()> {
     let at = typed_address(line);
-    say_given(records::replace(item, at.a, at.v, at.s, new, out));
-    say_text(words::OUTPUT, out);
+    say_given(to, records::replace(item, at.a, at.v, at.s, new, out))?;
+    say_text(to, words::OUTPUT, out)
 }
 
-fn lend(line: &[u8], item: &[u8], new: &[u8]) {
+fn lend<W: Write>(to: &mut W, line: &[u8], item: &[u8], new: &[u8]) -> io::Result<()> {
     let mut out = lent_room();
     let size = length_or(line, 4, 0);
-    replace(line, item, new, &mut out[0..size]);
+    replace(to, line, item, new, &mut out[0..size])
 }
 
 // The new element may be a byte too long.
-fn show_replace(line: &[u8], item: &[u8]) {
+fn show_replace<W: Write>(to: &mut W, line: &[u8], item: &[u8]) -> io::Result<()> {
     let mut new = [0u8; Limit::ENTRY.most + 1];
     let n = spelled_field(line, 3, true, &mut new);
-    lend(line, item, &new[..n]);
+    lend(to, line, item, &new[..n])
 }
 
-pub(crate) fn show(line: &[u8], item: &[u8]) {
+pub(crate) fn show<W: Write>(to: &mut W, line: &[u8], item: &[u8]) -> io::Result<()> {
     if first_byte(line) == b'f' {
-        find(line, item);
+        find(to, line, item)
     } else {
-        show_replace(line, item);
+        show_replace(to, line, item)
     }
 }

@@ -7,6 +7,8 @@ use cases::field;
 use cases::lines::{length_or, lent_room, number_or, spelled_field, typed_address, zeros};
 use convert::Converted;
 use paper::Limit;
+use std::io;
+use std::io::Write;
 
 // What a case is run with when it names no other.
 const BUDGET: u64 = 1_000_000;
@@ -16,55 +18,73 @@ const OUTPUT: u64 = 1_100;
 const SCRATCH: u64 = Limit::SCRATCH.most as u64;
 
 // The answer or the refusal, and the steps.
-fn say_converted(given: Converted, out: &[u8]) {
+fn say_converted<W: Write>(to: &mut W, given: Converted, out: &[u8]) -> io::Result<()> {
     if given.number == 0 {
-        say_text(words::COLON, lent::front(out, given.length));
+        say_text(to, words::COLON, lent::front(out, given.length))?;
     } else {
-        say_titled(words::REFUSED, given.number);
+        say_titled(to, words::REFUSED, given.number)?;
     }
-    say_titled(words::COMMA, given.steps);
-    say_word(words::STEPS);
+    say_titled(to, words::COMMA, given.steps)?;
+    say_word(to, words::STEPS)
 }
 
 // "that buffer holds the answer and then zeros to its end"
-fn say_output(line: &[u8], length: usize, out: &[u8]) {
+fn say_output<W: Write>(to: &mut W, line: &[u8], length: usize, out: &[u8]) -> io::Result<()> {
     if field(line, 4, b'|').len() != 0 {
-        say_text(words::OUTPUT, out);
+        say_text(to, words::OUTPUT, out)?;
     }
     if !zeros(out, length) {
-        say_word(words::OUTPUT_NOT_ZEROS);
+        say_word(to, words::OUTPUT_NOT_ZEROS)?;
     }
+    Ok(())
 }
 
 // "Scratch is zeros throughout after every call."
-fn say_scratch(scratch: &[u8]) {
-    say_word(if zeros(scratch, 0) {
-        words::SCRATCH_ZEROS
-    } else {
-        words::SCRATCH_NOT_ZEROS
-    });
+fn say_scratch<W: Write>(to: &mut W, scratch: &[u8]) -> io::Result<()> {
+    say_word(
+        to,
+        if zeros(scratch, 0) {
+            words::SCRATCH_ZEROS
+        } else {
+            words::SCRATCH_NOT_ZEROS
+        },
+    )
 }
 
 // What is answered and what is left.
-fn converted<'a>(line: &[u8], item: &'a [u8], code: &'a [u8], out: &mut [u8], scratch: &mut [u8]) {
+fn converted<'a, W: Write>(
+    to: &mut W,
+    line: &[u8],
+    item: &'a [u8],
+    code: &'a [u8],
+    out: &mut [u8],
+    scratch: &mut [u8],
+) -> io::Result<()> {
     let at = typed_address(line);
     let budget = number_or(line, 3, BUDGET);
     let given = convert::convert(item, code, at.a, at.v, at.s, budget, out, scratch);
-    say_converted(given, out);
-    say_output(line, given.length, out);
-    say_scratch(scratch);
+    say_converted(to, given, out)?;
+    say_output(to, line, given.length, out)?;
+    say_scratch(to, scratch)
 }
 
-fn lend<'a>(line: &[u8], item: &'a [u8], code: &'a [u8]) {
+fn lend<'a, W: Write>(to: &mut W, line: &[u8], item: &'a [u8], code: &'a [u8]) -> io::Result<()> {
     let mut out = lent_room();
     let mut scratch = lent_room();
     let room = length_or(line, 4, OUTPUT);
     let lent = length_or(line, 5, SCRATCH);
-    converted(line, item, code, &mut out[0..room], &mut scratch[0..lent]);
+    converted(
+        to,
+        line,
+        item,
+        code,
+        &mut out[0..room],
+        &mut scratch[0..lent],
+    )
 }
 
-pub(crate) fn show(line: &[u8], item: &[u8]) {
+pub(crate) fn show<W: Write>(to: &mut W, line: &[u8], item: &[u8]) -> io::Result<()> {
     let mut code = [0u8; Limit::CODE.most + 1];
     let n = spelled_field(line, 0, false, &mut code);
-    lend(line, item, &code[..n]);
+    lend(to, line, item, &code[..n])
 }

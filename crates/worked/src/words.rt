@@ -2,6 +2,8 @@
 // A byte string in the code costs more to check than a call, and a long one hardly more than a short one.
 use crate::showing::say;
 use cases::field;
+use std::io;
+use std::io::Write;
 
 pub(crate) const COLON: u64 = 0;
 
@@ -35,8 +37,8 @@ pub(crate) const SCRATCH_ZEROS: u64 = 14;
 
 pub(crate) const SCRATCH_NOT_ZEROS: u64 = 15;
 
-pub(crate) fn say_word(word: u64) {
+pub(crate) fn say_word<W: Write>(out: &mut W, word: u64) -> io::Result<()> {
     let words = b": | |: refused |: missing|: at |, length |: length |: day | zeros| bytes|, \
         | steps|, output |, output not zeros behind the answer|, scratch zeros|, scratch not zeros";
-    say(field(words, word, b'|'));
+    say(out, field(words, word, b'|'))
 }
