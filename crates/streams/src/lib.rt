@@ -1,5 +1,6 @@
 // What the programs read by: a buffer filled from a reader, as far as its bytes go.
 #![tactic(auto)]
+
 ghost use Rattle.std.specs.Prelude.{IfOk};
 ghost use Rattle.std.specs.Counts.{IsPrefixLen};
 

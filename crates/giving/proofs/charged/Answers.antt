@@ -1,7 +1,6 @@
 -- `giving::charged` meets its contract: the bytes taken, or so many tests of each place, which do not wrap.
 use mathlib.Core.Path.{refl}
 use native.Mathlib.Omega.{arith}
-use borrow.Author.Rules.{rules}
 use Rattle.paper.specs.Sizes.{entry_most}
 use Rattle.paper.specs.Steps.{charged}
 use Rattle.codes.specs.Counting.{kind_of}

@@ -1,5 +1,4 @@
 -- `giving::give` meets its contract: each code as the crate it belongs to gives.
-use borrow.Author.Rules.{rules}
 use Rattle.paper.specs.Steps.{conversion_gives}
 use Rattle.codes.specs.Meaning.{conversion_of}
 use Rattle.giving.proofs.Numbers.{mask_bounded, date_digits, patterns_readable}

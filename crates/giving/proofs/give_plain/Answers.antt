@@ -1,5 +1,4 @@
 -- `giving::give_plain` meets its contract: each code as the call for it gives.
-use borrow.Author.Rules.{rules}
 use Rattle.codes.specs.Meaning.{plain_of}
 use Rattle.texts.specs.Codes.{kept_code, cased_code}
 use Rattle.giving.proofs.give_plain.Goals as goal

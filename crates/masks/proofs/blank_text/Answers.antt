@@ -3,7 +3,6 @@ use mathlib.Core.Path.{sym, ◌∙◌}
 use native.Mathlib.Nat.{zero-add}
 use native.Mathlib.Omega.{arith}
 use lib.ListN.{length-replicate}
-use borrow.Author.Rules.{rules}
 use Rattle.paper.specs.Masks.{blank_text}
 use Rattle.codes.specs.Meaning.{fill_of}
 use Rattle.lent.proofs.Laying.{laid_none, laid_at}

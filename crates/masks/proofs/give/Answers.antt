@@ -1,6 +1,5 @@
 -- `give` meets its contract: an empty element, a refusal passed up, or what the number gives.
 use mathlib.Core.Path.{sym, ◌∙◌}
-use borrow.Author.Rules.{rules}
 use native.Mathlib.Omega.{arith}
 use Rattle.paper.specs.Sizes.{entry_most}
 use Rattle.paper.specs.Numbers.{numeric}

@@ -1,7 +1,6 @@
 -- `laid_out` meets its contract: the text alone, or in its field.
 use mathlib.Core.Path.{sym}
 use native.Mathlib.Nat.{zero-add}
-use borrow.Author.Rules.{rules}
 use Rattle.paper.specs.Masks.{laid_out}
 use Rattle.codes.specs.Meaning.{fill_of}
 use Rattle.lent.proofs.Laying.{laid_at}

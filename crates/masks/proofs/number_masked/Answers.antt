@@ -1,5 +1,4 @@
 -- `number_masked` meets its contract: blanks for zero, a value out of range, or its text.
-use borrow.Author.Rules.{rules}
 use native.Mathlib.Omega.{arith}
 use Rattle.codes.specs.Meaning.{mask_of}
 use Rattle.numbers.specs.Forms.{whole}

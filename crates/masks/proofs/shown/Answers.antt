@@ -1,7 +1,6 @@
 -- `shown` meets its contract: the text in its buffer, from its place to the end, laid out.
 use mathlib.Core.Path.{ap}
 use lib.ListN.{drop, length-take}
-use borrow.Author.Rules.{rules}
 use native.Mathlib.Omega.{arith}
 use Prim.Native.Nat.{◌-◌}
 use Rattle.paper.specs.Masks.{laid_out}

@@ -1,6 +1,5 @@
 -- `give` writes the element where a pattern passes, else nothing.
 use native.Mathlib.Omega.{arith}
-use borrow.Author.Rules.{rules}
 use Rattle.paper.proofs.Limits.{entry_limit}
 use Rattle.patterns.proofs.Choosing.{gives_element, gives_nothing}
 use Rattle.patterns.proofs.give.Goals as goal

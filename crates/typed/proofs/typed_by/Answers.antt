@@ -1,5 +1,4 @@
 -- `typed_by` meets its contract: by the arm that the code took.
-use borrow.Author.Rules.{rules}
 use Rattle.paper.specs.TypedDates.{typed_by}
 use Rattle.codes.specs.Meaning.{conversion_of}
 use Rattle.dates.specs.Dated.{typed_of}

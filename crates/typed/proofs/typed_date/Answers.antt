@@ -2,7 +2,6 @@
 use mathlib.Core.Path.{◌≡◌, sym, ap, ◌∙◌}
 use mathlib.Core.Bool.{false}
 use mathlib.Core.Option.{some}
-use borrow.Author.Rules.{rules}
 use Rattle.paper.specs.Bytes.{any}
 use Rattle.paper.specs.Sizes.{is_mark}
 use Rattle.grammar.specs.Heads.{head}

@@ -1,7 +1,6 @@
 -- `calendar::date_of` gives the date of the definition.
 use mathlib.Core.Path.{◌∙◌}
 use native.Mathlib.Omega.{arith}
-use borrow.Author.Rules.{rules}
 use Rattle.paper.specs.Dates.{year_of, date_of}
 use Rattle.paper.proofs.Calendar.{year_of_in, year_most, twelve, year_fills}
 use Rattle.dates.proofs.calendar.date_of.Goals as goal

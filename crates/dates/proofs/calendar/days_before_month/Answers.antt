@@ -4,7 +4,6 @@ use mathlib.Core.Path.{◌≡◌}
 use mathlib.Core.Bool.{◌&&◌}
 use native.Mathlib.Omega.{arith}
 use lib.Dec.{ltb}
-use borrow.Author.Rules.{rules}
 use Rattle.paper.specs.Dates.{days_in, month_lengths}
 use Rattle.dates.proofs.CalendarLaws.{counted_most}
 use Rattle.dates.proofs.MonthLaws.{evenly, days_before}

@@ -1,7 +1,6 @@
 -- `calendar::days_before_year` counts the days of the definition.
 use native.Mathlib.Numerals.{sub-one}
 use Rattle.paper.specs.Dates.{days_before_year}
-use borrow.Author.Rules.{rules}
 use Rattle.dates.proofs.calendar.days_before_year.Goals as goal
 
 pub returns : goal.returns

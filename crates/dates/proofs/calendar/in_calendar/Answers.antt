@@ -2,7 +2,6 @@
 use mathlib.Core.Bool.{and-true, and-false}
 use native.Mathlib.Numerals.{sub-one}
 use native.Mathlib.Omega.{arith}
-use borrow.Author.Rules.{rules}
 use borrow.Author.Tests.{le-leb, lt-leb}
 use Rattle.paper.specs.TypedDates.{in_calendar}
 use Rattle.dates.proofs.calendar.in_calendar.Goals as goal

@@ -2,7 +2,6 @@
 use Prim.Native.Nat.{◌+◌, ◌-◌, ◌*◌, ◌/◌, ◌≤◌}
 use native.Mathlib.Omega.{arith}
 use lib.Dec.{leb}
-use borrow.Author.Rules.{rules}
 use Rattle.dates.proofs.CalendarLaws.{year_days_most, counted_most}
 use Rattle.dates.proofs.MonthLaws.{InMonth, month_found, leap_day_within, month_dated}
 use Rattle.dates.proofs.calendar.month_day.Goals as goal

@@ -2,7 +2,6 @@
 use mathlib.Core.Bool.{◌&&◌}
 use native.Mathlib.Omega.{arith}
 use lib.Dec.{eqb}
-use borrow.Author.Rules.{rules}
 use Rattle.dates.proofs.Tables.{length_at, length_most}
 use Rattle.dates.proofs.CalendarLaws.{counted_most}
 use Rattle.dates.proofs.calendar.month_length.Goals as goal

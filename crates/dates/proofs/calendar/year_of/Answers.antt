@@ -1,6 +1,5 @@
 -- `calendar::year_of` gives the year of the definition.
 use Rattle.dates.proofs.CalendarLaws.{year_next, year_same}
-use borrow.Author.Rules.{rules}
 use Rattle.dates.proofs.calendar.year_of.Goals as goal
 
 pub returns-then-days_before_year-n : goal.returns-then-days_before_year-n

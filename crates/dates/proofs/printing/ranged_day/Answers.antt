@@ -1,5 +1,4 @@
 -- `printing::ranged_day` counts a day from 1 January of year 1 as the definition does.
-use borrow.Author.Rules.{rules}
 use borrow.Author.Tests.{le-leb, lt-leb}
 use Rattle.paper.specs.Dates.{ranged_day}
 use Rattle.dates.specs.Dated.{ranged_of}

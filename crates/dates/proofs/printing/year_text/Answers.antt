@@ -2,7 +2,6 @@
 use mathlib.Core.Path.{◌∙◌}
 use native.Mathlib.Omega.{arith}
 use lib.ListN.{length-set}
-use borrow.Author.Rules.{rules}
 use Rattle.dates.proofs.PrintingLaws.{year_none, year_laid}
 use Rattle.dates.proofs.printing.year_text.Goals as goal
 

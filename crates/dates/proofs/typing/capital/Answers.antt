@@ -1,6 +1,5 @@
 -- `typing::capital` raises a letter as the definition does.
 use native.Mathlib.Omega.{arith}
-use borrow.Author.Rules.{rules}
 use Rattle.paper.specs.Bytes.{is_lower}
 use Rattle.paper.specs.Texts.{raised}
 use Rattle.paper.proofs.Ranges.{within_yes, within_below, within_above}

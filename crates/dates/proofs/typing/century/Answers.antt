@@ -1,6 +1,5 @@
 -- `typing::century` turns at 30 as the definition does.
 use native.Mathlib.Omega.{arith}
-use borrow.Author.Rules.{rules}
 use borrow.Author.Tests.{le-leb, lt-leb}
 use Rattle.paper.specs.TypedDates.{century}
 use Rattle.dates.proofs.typing.century.Goals as goal

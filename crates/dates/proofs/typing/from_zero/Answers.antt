@@ -1,7 +1,6 @@
 -- `typing::from_zero` counts a day from day zero as the definition does.
 use Prim.Native.Nat.{◌-◌}
 use native.Mathlib.Omega.{arith}
-use borrow.Author.Rules.{rules}
 use borrow.Author.Tests.{le-leb, lt-leb, lt-ltb}
 use Rattle.paper.specs.Numbers.{plus, natural, signed}
 use Rattle.dates.specs.Dated.{typed_of}

@@ -4,7 +4,6 @@ use native.Mathlib.Numerals.{add-one}
 use native.Mathlib.Omega.{arith}
 use lib.ListN.{get_or, drop_of_length-le}
 use lib.Seq.{drop-cons}
-use borrow.Author.Rules.{rules}
 use Rattle.paper.specs.Bytes.{is_digit, digit_value}
 use Rattle.paper.specs.Grammar.{numeral, more_digits}
 use Rattle.paper.specs.TypedDates.{typed_digit}

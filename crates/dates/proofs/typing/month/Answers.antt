@@ -1,5 +1,5 @@
 -- `typing::month` reads three letters where the definition does.
-use mathlib.Core.Path.{◌≡◌, refl, ◌∙◌}
+use mathlib.Core.Path.{refl, ◌∙◌}
 use native.Mathlib.Omega.{arith}
 use Rattle.dates.specs.Scans.{found}
 use Rattle.dates.proofs.NameLaws.{month_short, month_found, named_none, named_some}

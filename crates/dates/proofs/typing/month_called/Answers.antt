@@ -1,12 +1,8 @@
 -- `typing::month_called` finds the month that the definition does: what the names from here on give is what all give.
-use Prim.Native.Nat.{◌-◌, ◌≤◌}
-use mathlib.Core.Path.{◌≡◌, refl, ◌∙◌}
-use mathlib.Core.List.{[], ◌∷◌}
+use mathlib.Core.Path.{refl, ◌∙◌}
 use native.Mathlib.Omega.{arith}
-use Rattle.paper.specs.Bytes.{Bytes, bytes}
-use Rattle.paper.specs.Dates.{month_names}
-use Rattle.paper.specs.TypedDates.{month_called}
-use Rattle.dates.proofs.NameLaws.{asked, called_here, called_next, called_end}
+use Rattle.paper.specs.Bytes.{bytes}
+use Rattle.dates.proofs.NameLaws.{called_here, called_next, called_end}
 use Rattle.dates.proofs.typing.month_called.Goals as goal
 
 pub loop-k-init : goal.loop-k-init

@@ -1,11 +1,10 @@
 use Prim.Native.Nat.{◌-◌, ◌≤◌}
-use mathlib.Core.Path.{◌≡◌, refl, ◌∙◌}
+use mathlib.Core.Path.{◌≡◌}
 use mathlib.Core.List.{[], ◌∷◌}
-use native.Mathlib.Omega.{arith}
-use Rattle.paper.specs.Bytes.{Bytes, bytes}
+use Rattle.paper.specs.Bytes.{Bytes}
 use Rattle.paper.specs.Dates.{month_names}
 use Rattle.paper.specs.TypedDates.{month_called}
-use Rattle.dates.proofs.NameLaws.{asked, called_here, called_next, called_end}
+use Rattle.dates.proofs.NameLaws.{asked}
 use Rattle.dates.proofs.typing.month_called.Given as goal
 
 abbrev pub invariant-loop-k : goal.invariant-loop-k

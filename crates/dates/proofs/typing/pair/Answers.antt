@@ -1,7 +1,6 @@
 -- `typing::pair` reads one or two digits where the definition does.
 use mathlib.Core.Path.{sym, ap}
 use native.Mathlib.Omega.{arith}
-use borrow.Author.Rules.{rules}
 use Rattle.dates.specs.Scans.{found}
 use Rattle.dates.proofs.TypingLaws.{seen, unseen, within_more, pair_is}
 use Rattle.dates.proofs.typing.pair.Goals as goal

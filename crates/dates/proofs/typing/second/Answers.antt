@@ -1,6 +1,5 @@
 -- `typing::second` reads the piece that the definition asks for.
 use native.Mathlib.Omega.{arith}
-use borrow.Author.Rules.{rules}
 use Rattle.dates.specs.Scans.{second}
 use Rattle.dates.proofs.TypingLaws.{within_more}
 use Rattle.dates.proofs.typing.second.Goals as goal

@@ -1,7 +1,6 @@
 -- `typing::year` reads two or four digits where the definition does.
 use mathlib.Core.Path.{sym, ap}
 use native.Mathlib.Omega.{arith}
-use borrow.Author.Rules.{rules}
 use Rattle.dates.specs.Scans.{found}
 use Rattle.dates.proofs.TypingLaws.{seen, unseen, within_more, year_is}
 use Rattle.dates.proofs.typing.year.Goals as goal

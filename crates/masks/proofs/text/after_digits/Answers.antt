@@ -2,7 +2,6 @@
 use mathlib.Core.Path.{◌≡◌, sym, ap, ◌∙◌}
 use mathlib.Core.Bool.{◌||◌}
 use lib.Dec.{eqb}
-use borrow.Author.Rules.{rules}
 use Rattle.paper.specs.Bytes.{bytes}
 use Rattle.paper.specs.Numbers.{Number}
 use Rattle.paper.specs.Masks.{after_digits}

@@ -1,5 +1,4 @@
 -- `text::digits_text` meets its contract: the decimals, and the integer digits before them.
-use borrow.Author.Rules.{rules}
 use native.Mathlib.Nat.{div-le_self}
 use native.Mathlib.Omega.{arith}
 use Rattle.paper.proofs.Numerals.{pow_pos}

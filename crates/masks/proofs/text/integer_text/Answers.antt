@@ -1,7 +1,7 @@
 -- `text::integer_text` meets its contract. The invariant: the last `count` digits are laid, with their commas, and `rest` is what stands
 -- before them. The measure is `rest`.
 use native.Mathlib.Omega.{arith}
-use Rattle.masks.proofs.GroupLaws.{Turned, turned_none, turned_room, turned_again, turned_all}
+use Rattle.masks.proofs.GroupLaws.{turned_none, turned_room, turned_again, turned_all}
 use Rattle.masks.proofs.text.integer_text.Goals as goal
 
 pub loop-rest-init : goal.loop-rest-init

@@ -1,5 +1,4 @@
-use native.Mathlib.Omega.{arith}
-use Rattle.masks.proofs.GroupLaws.{Turned, turned_none, turned_room, turned_again, turned_all}
+use Rattle.masks.proofs.GroupLaws.{Turned}
 use Rattle.masks.proofs.text.integer_text.Given as goal
 
 abbrev pub invariant-loop-rest : goal.invariant-loop-rest

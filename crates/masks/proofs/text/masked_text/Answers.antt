@@ -2,7 +2,6 @@
 use mathlib.Core.Bool.{◌&&◌}
 use Prim.Native.Nat.{◌≤◌}
 use lib.Dec.{ltb}
-use borrow.Author.Rules.{rules}
 use native.Mathlib.Omega.{arith}
 use Rattle.codes.specs.Meaning.{credit_of, mask_of}
 use Rattle.numbers.specs.Forms.{whole}

@@ -1,5 +1,4 @@
 -- `text::point_text` meets its contract: the decimals, and a point before them.
-use borrow.Author.Rules.{rules}
 use native.Mathlib.Omega.{arith}
 use Rattle.lent.proofs.Laying.{laid_as, laid_none, laid_ahead}
 use Rattle.masks.proofs.PieceLaws.{laid_digits, no_point, pointed}

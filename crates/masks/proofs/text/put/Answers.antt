@@ -1,5 +1,4 @@
 -- `text::put` meets its contract: one byte before its place.
-use borrow.Author.Rules.{rules}
 use native.Mathlib.Omega.{arith}
 use Rattle.lent.proofs.Laying.{laid_one}
 use Rattle.masks.proofs.text.put.Goals as goal

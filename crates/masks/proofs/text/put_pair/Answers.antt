@@ -1,5 +1,4 @@
 -- `text::put_pair` meets its contract: two bytes, the second laid first.
-use borrow.Author.Rules.{rules}
 use Rattle.lent.proofs.Laying.{laid_as, laid_ahead}
 use Rattle.masks.proofs.text.put_pair.Goals as goal
 

@@ -1,6 +1,4 @@
 -- `text::put_when` meets its contract: a byte or none.
-use borrow.Author.Rules.{rules}
-use native.Mathlib.Omega.{arith}
 use Rattle.lent.proofs.Laying.{laid_as, laid_none}
 use Rattle.masks.specs.Pieces.{when}
 use Rattle.masks.proofs.text.put_when.Goals as goal

@@ -1,7 +1,6 @@
 -- `text::sign_byte` meets its contract, arm by arm.
 use mathlib.Core.Path.{◌≡◌, sym, ap}
 use mathlib.Core.Bool.{true}
-use borrow.Author.Rules.{rules}
 use Rattle.paper.specs.Bytes.{bytes}
 use Rattle.paper.specs.Masks.{before_digits}
 use Rattle.codes.specs.declared.Credit.{Credit}

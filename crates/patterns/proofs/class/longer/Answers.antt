@@ -1,6 +1,5 @@
 -- `longer` counts the byte in front of a run.
 use mathlib.Core.Path.{sym, ◌∙◌}
-use borrow.Author.Rules.{rules}
 use Rattle.patterns.proofs.class.longer.Goals as goal
 
 pub returns-then-of_class : goal.returns-then-of_class

@@ -1,6 +1,5 @@
 -- `mark` is 1 where the byte is of the class.
 use mathlib.Core.Path.{sym, ◌∙◌}
-use borrow.Author.Rules.{rules}
 use Rattle.patterns.proofs.class.mark.Goals as goal
 
 pub returns-then-of_class : goal.returns-then-of_class

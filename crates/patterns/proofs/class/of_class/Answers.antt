@@ -1,5 +1,4 @@
 -- `of_class` is the test of its class: in each arm the class is known, and the byte's own test answers.
-use borrow.Author.Rules.{rules}
 use Rattle.paper.specs.Patterns.{of_class}
 use Rattle.codes.specs.Meaning.{class_of}
 use Rattle.patterns.proofs.class.of_class.Goals as goal

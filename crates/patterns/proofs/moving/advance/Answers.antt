@@ -2,7 +2,6 @@
 use Prim.Native.Nat.{◌+◌, ◌-◌}
 use mathlib.Core.Path.{◌≡◌}
 use native.Mathlib.Omega.{arith}
-use borrow.Author.Rules.{rules}
 use Rattle.patterns.proofs.Testing.{any_test, run_test, literal_test, literal_ends}
 use Rattle.patterns.proofs.moving.advance.Goals as goal
 

@@ -2,7 +2,6 @@
 use Prim.Native.Nat.{◌+◌, ◌-◌}
 use mathlib.Core.Path.{◌≡◌}
 use native.Mathlib.Omega.{arith}
-use borrow.Author.Rules.{rules}
 use lib.ListN.{length, take, drop}
 use Rattle.paper.specs.Bytes.{same_bytes}
 use Rattle.patterns.proofs.Marking.{zero_flag, first_differs, first_same, part_told}

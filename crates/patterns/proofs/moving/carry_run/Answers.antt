@@ -2,9 +2,7 @@
 use Prim.Native.Nat.{◌+◌, ◌-◌}
 use mathlib.Core.Path.{◌≡◌}
 use native.Mathlib.Omega.{arith}
-use borrow.Author.Rules.{rules}
-use Rattle.codes.specs.Meaning.{class_of}
-use Rattle.patterns.proofs.Marking.{Running, running_start, running_next}
+use Rattle.patterns.proofs.Marking.{running_start, running_next}
 use Rattle.patterns.proofs.moving.carry_run.Goals as goal
 
 pub loop-i-init : goal.loop-i-init

@@ -1,9 +1,5 @@
-use Prim.Native.Nat.{◌+◌, ◌-◌}
-use mathlib.Core.Path.{◌≡◌}
-use native.Mathlib.Omega.{arith}
-use borrow.Author.Rules.{rules}
 use Rattle.codes.specs.Meaning.{class_of}
-use Rattle.patterns.proofs.Marking.{Running, running_start, running_next}
+use Rattle.patterns.proofs.Marking.{Running}
 use Rattle.patterns.proofs.moving.carry_run.Given as goal
 
 abbrev pub invariant-loop-i : goal.invariant-loop-i

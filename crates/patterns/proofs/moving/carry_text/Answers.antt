@@ -1,9 +1,7 @@
 -- `carry_text` carries the flags of the places from i on over the literal.
-use Prim.Native.Nat.{◌+◌, ◌-◌, ◌≤◌}
+use Prim.Native.Nat.{◌+◌, ◌-◌}
 use mathlib.Core.Path.{◌≡◌}
 use native.Mathlib.Omega.{arith}
-use lib.ListN.{length}
-use Rattle.patterns.specs.Reach.{Carried, starts}
 use Rattle.patterns.proofs.Marking.{carried_start, carried_next}
 use Rattle.patterns.proofs.moving.carry_text.Goals as goal
 

@@ -1,9 +1,6 @@
-use Prim.Native.Nat.{◌+◌, ◌-◌, ◌≤◌}
-use mathlib.Core.Path.{◌≡◌}
-use native.Mathlib.Omega.{arith}
+use Prim.Native.Nat.{◌+◌, ◌≤◌}
 use lib.ListN.{length}
 use Rattle.patterns.specs.Reach.{Carried, starts}
-use Rattle.patterns.proofs.Marking.{carried_start, carried_next}
 use Rattle.patterns.proofs.moving.carry_text.Given as goal
 
 abbrev pub invariant-loop-i : goal.invariant-loop-i

@@ -2,7 +2,6 @@
 use Prim.Native.Nat.{◌+◌, ◌-◌}
 use mathlib.Core.Path.{◌≡◌}
 use native.Mathlib.Omega.{arith}
-use borrow.Author.Rules.{rules}
 use Rattle.patterns.proofs.Marking.{end_told}
 use Rattle.patterns.proofs.Testing.{literal_told, literal_ends}
 use Rattle.patterns.proofs.moving.ends.Goals as goal

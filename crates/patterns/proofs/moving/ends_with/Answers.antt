@@ -2,7 +2,6 @@
 use Prim.Native.Nat.{◌+◌, ◌-◌}
 use mathlib.Core.Path.{◌≡◌}
 use native.Mathlib.Omega.{arith}
-use borrow.Author.Rules.{rules}
 use lib.ListN.{length}
 use Rattle.patterns.proofs.Marking.{end_short, end_unreached, end_compared}
 use Rattle.patterns.proofs.moving.ends_with.Goals as goal

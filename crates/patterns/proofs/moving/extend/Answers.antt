@@ -1,10 +1,6 @@
 -- `extend` moves the flags on over any number of bytes of a class: the places in front of j are moved on, and `carried` leads on to j.
-use Prim.Native.Nat.{◌-◌, ◌≤◌}
 use native.Mathlib.Omega.{arith}
-use borrow.Author.Rules.{rules}
-use lib.ListN.{length}
-use Rattle.codes.specs.Meaning.{class_of}
-use Rattle.patterns.proofs.Marking.{Extended, extended_start, extended_next, extended_moved}
+use Rattle.patterns.proofs.Marking.{extended_start, extended_next, extended_moved}
 use Rattle.patterns.proofs.moving.extend.Goals as goal
 
 pub loop-j-init : goal.loop-j-init

@@ -1,9 +1,7 @@
 use Prim.Native.Nat.{◌-◌, ◌≤◌}
-use native.Mathlib.Omega.{arith}
-use borrow.Author.Rules.{rules}
 use lib.ListN.{length}
 use Rattle.codes.specs.Meaning.{class_of}
-use Rattle.patterns.proofs.Marking.{Extended, extended_start, extended_next, extended_moved}
+use Rattle.patterns.proofs.Marking.{Extended}
 use Rattle.patterns.proofs.moving.extend.Given as goal
 
 abbrev pub invariant-loop-j : goal.invariant-loop-j

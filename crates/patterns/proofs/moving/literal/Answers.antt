@@ -1,5 +1,4 @@
 -- `literal` moves the flags on over the bytes of a literal: none where the element is shorter, and as they are where it is empty.
-use borrow.Author.Rules.{rules}
 use Rattle.patterns.proofs.Marking.{empty_moves, text_short, text_moves}
 use Rattle.patterns.proofs.moving.literal.Goals as goal
 

@@ -1,6 +1,5 @@
 -- `run_on` moves the flags on over so many bytes of a class: none where the element is shorter.
 use native.Mathlib.Omega.{arith}
-use borrow.Author.Rules.{rules}
 use Rattle.patterns.proofs.Marking.{run_short, run_moves}
 use Rattle.patterns.proofs.moving.run_on.Goals as goal
 

@@ -1,11 +1,7 @@
 -- `same` compares without early exit: `other` is 0 where the bytes passed are the same.
-use Prim.Native.Nat.{◌-◌, ◌≤◌}
-use mathlib.Core.Path.{◌≡◌, refl}
-use mathlib.Core.Bool.{◌&&◌}
+use mathlib.Core.Path.{refl}
 use native.Mathlib.Omega.{arith}
-use lib.ListN.{length, drop}
 use lib.Dec.{eqb}
-use Rattle.paper.specs.Bytes.{same_bytes}
 use Rattle.patterns.proofs.Marking.{same_next, same_other, same_all}
 use Rattle.patterns.proofs.moving.same.Goals as goal
 

@@ -1,11 +1,9 @@
 use Prim.Native.Nat.{◌-◌, ◌≤◌}
-use mathlib.Core.Path.{◌≡◌, refl}
+use mathlib.Core.Path.{◌≡◌}
 use mathlib.Core.Bool.{◌&&◌}
-use native.Mathlib.Omega.{arith}
 use lib.ListN.{length, drop}
 use lib.Dec.{eqb}
 use Rattle.paper.specs.Bytes.{same_bytes}
-use Rattle.patterns.proofs.Marking.{same_next, same_other, same_all}
 use Rattle.patterns.proofs.moving.same.Given as goal
 
 abbrev pub invariant-loop-k : goal.invariant-loop-k

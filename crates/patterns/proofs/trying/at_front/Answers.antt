@@ -1,5 +1,4 @@
 -- `at_front` marks the element's front and no other place.
-use borrow.Author.Rules.{rules}
 use Rattle.patterns.proofs.Choosing.{front_marks}
 use Rattle.patterns.proofs.trying.at_front.Goals as goal
 

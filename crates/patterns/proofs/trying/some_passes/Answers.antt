@@ -1,10 +1,7 @@
 -- `some_passes` goes from pattern to pattern: those still to be read tell what all tell, since none so far has passed.
-use Prim.Native.Nat.{◌-◌}
-use mathlib.Core.Path.{◌≡◌, refl, ◌∙◌}
+use mathlib.Core.Path.{refl, ◌∙◌}
 use native.Mathlib.Omega.{arith}
-use borrow.Author.Rules.{rules}
-use lib.ListN.{length}
-use Rattle.patterns.proofs.Choosing.{Choosing, choosing_start, choosing_none, choosing_passed, choosing_last, choosing_next, peeked_on}
+use Rattle.patterns.proofs.Choosing.{choosing_start, choosing_none, choosing_passed, choosing_last, choosing_next, peeked_on}
 use Rattle.patterns.proofs.trying.some_passes.Goals as goal
 
 pub loop-opening-init : goal.loop-opening-init

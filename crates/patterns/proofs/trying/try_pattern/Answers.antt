@@ -1,13 +1,13 @@
 -- `try_pattern` goes from test to test: the flags are those of the tests so far, and the tests still to be read tell from there what all tell.
-use Prim.Native.Nat.{◌-◌, ◌≤◌, ◌<◌}
-use mathlib.Core.Path.{◌≡◌, ◌∙◌}
+use Prim.Native.Nat.{◌≤◌, ◌<◌}
+use mathlib.Core.Path.{◌∙◌}
 use native.Mathlib.Omega.{arith}
 use borrow.Author.Rules.{rules}
 use lib.ListN.{length}
 use Rattle.readers.proofs.Answering.{tests, read_is}
 use Rattle.readers.proofs.Bytes.{peeked_within}
 use Rattle.readers.proofs.PatternReads.{test_within}
-use Rattle.patterns.proofs.Choosing.{Trying, trying_start, trying_none, trying_next, trying_last, test_stands}
+use Rattle.patterns.proofs.Choosing.{trying_start, trying_none, trying_next, trying_last, test_stands}
 use Rattle.patterns.proofs.trying.try_pattern.Goals as goal
 
 pub loop-test-init : goal.loop-test-init

@@ -1,12 +1,7 @@
-use Prim.Native.Nat.{◌-◌, ◌≤◌, ◌<◌}
-use mathlib.Core.Path.{◌≡◌, ◌∙◌}
-use native.Mathlib.Omega.{arith}
-use borrow.Author.Rules.{rules}
+use Prim.Native.Nat.{◌-◌, ◌≤◌}
+use mathlib.Core.Path.{◌≡◌}
 use lib.ListN.{length}
-use Rattle.readers.proofs.Answering.{tests, read_is}
-use Rattle.readers.proofs.Bytes.{peeked_within}
-use Rattle.readers.proofs.PatternReads.{test_within}
-use Rattle.patterns.proofs.Choosing.{Trying, trying_start, trying_none, trying_next, trying_last, test_stands}
+use Rattle.patterns.proofs.Choosing.{Trying}
 use Rattle.patterns.proofs.trying.try_pattern.Given as goal
 
 abbrev pub invariant-loop-test : goal.invariant-loop-test

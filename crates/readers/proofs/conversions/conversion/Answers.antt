@@ -1,6 +1,5 @@
 -- `conversions::conversion` meets its contract: by the arm that the letter took.
 use mathlib.Core.Path.{refl}
-use borrow.Author.Rules.{rules}
 use Rattle.readers.specs.Reading.{conversion}
 use Rattle.readers.proofs.Answering.{conversions, read_by, read_none}
 use Rattle.readers.proofs.Taken.{chosen, missed}

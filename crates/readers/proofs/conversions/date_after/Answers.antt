@@ -1,6 +1,5 @@
 -- `conversions::date_after` meets its contract.
 use mathlib.Core.Path.{sym, ◌∙◌}
-use borrow.Author.Rules.{rules}
 use Rattle.readers.specs.Reading.{date_after}
 use Rattle.readers.proofs.Answering.{conversions, read_some}
 use Rattle.readers.proofs.conversions.date_after.Goals as goal

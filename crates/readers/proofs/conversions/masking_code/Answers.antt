@@ -1,6 +1,5 @@
 -- `conversions::masking_code` meets its contract: by the arm that the letter took.
 use mathlib.Core.Path.{refl}
-use borrow.Author.Rules.{rules}
 use Rattle.readers.specs.Reading.{masking_code}
 use Rattle.readers.proofs.Answering.{conversions, read_by, read_none, read_some}
 use Rattle.readers.proofs.Taken.{chosen, missed}

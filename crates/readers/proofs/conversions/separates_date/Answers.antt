@@ -1,6 +1,5 @@
 -- `conversions::separates_date` meets its contract: by the arm that the byte took.
 use native.Mathlib.Omega.{arith}
-use borrow.Author.Rules.{rules}
 use Rattle.paper.specs.Bytes.{is_digit, is_letter, is_upper, is_lower}
 use Rattle.paper.specs.Grammar.{is_separator}
 use Rattle.paper.proofs.Ranges.{within_below, within_above}
@@ -12,8 +11,8 @@ pub returns-in-32-to-126 : goal.returns-in-32-to-126
 unfolding is_separator is_letter is_upper is_lower is_digit
 returns-in-32-to-126 c =
     elim c.in-32-to-126-1.branch [
-      then-byte-lt40 w ↦ parts_low _ c.if-byte-lt32-1.false w.if-byte-lt40-1.true _ c.letter_or_digit.ensures
-    | else-byte-lt40+else-byte-lt42+then-byte-lt127 w ↦ parts_high _ w.if-byte-lt42-1.false w.if-byte-lt127-1.true (omega arith) _ c.letter_or_digit.ensures
+      | then-byte-lt40 w ↦ parts_low _ c.if-byte-lt32-1.false w.if-byte-lt40-1.true _ c.letter_or_digit.ensures
+      | else-byte-lt40+else-byte-lt42+then-byte-lt127 w ↦ parts_high _ w.if-byte-lt42-1.false w.if-byte-lt127-1.true (omega arith) _ c.letter_or_digit.ensures
     ]
 
 pub returns-in_default : goal.returns-in_default

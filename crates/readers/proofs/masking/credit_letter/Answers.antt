@@ -1,6 +1,5 @@
 -- `masking::credit_letter` meets its contract: by the arm that the byte took.
 use mathlib.Core.Path.{refl, sym}
-use borrow.Author.Rules.{rules}
 use Rattle.readers.specs.Reading.{credit_letter}
 use Rattle.readers.proofs.Taken.{chosen, missed}
 use Rattle.readers.proofs.masking.credit_letter.Goals as goal

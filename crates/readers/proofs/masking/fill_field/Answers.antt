@@ -1,5 +1,4 @@
 -- `masking::fill_field` meets its contract: a number 1 to 99, and a parenthesis.
-use borrow.Author.Rules.{rules}
 use Rattle.paper.proofs.Ranges.{within_above}
 use Rattle.readers.specs.Reading.{fill_field}
 use Rattle.readers.proofs.Answering.{nums, fills, read_is, read_none, read_some, passed}

@@ -1,6 +1,5 @@
 -- `masking::fill_part` meets its contract.
 use mathlib.Core.Path.{refl}
-use borrow.Author.Rules.{rules}
 use Rattle.readers.specs.Reading.{fill_part}
 use Rattle.readers.proofs.Answering.{fills, read_by, read_some}
 use Rattle.readers.proofs.Taken.{chosen, missed}

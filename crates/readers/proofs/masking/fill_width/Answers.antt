@@ -1,6 +1,5 @@
 -- `masking::fill_width` meets its contract: by the arm that the byte took.
 use mathlib.Core.Path.{refl}
-use borrow.Author.Rules.{rules}
 use Rattle.readers.specs.Reading.{fill_byte}
 use Rattle.readers.proofs.Lines.{width_by, width_none}
 use Rattle.readers.proofs.Answering.{fills, read_by, read_none}

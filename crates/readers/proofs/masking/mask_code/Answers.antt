@@ -1,5 +1,4 @@
 -- `masking::mask_code` meets its contract: part by part.
-use borrow.Author.Rules.{rules}
 use Rattle.readers.specs.Reading.{mask_code}
 use Rattle.readers.proofs.Answering.{fills, conversions, read_is, read_some, passed}
 use Rattle.readers.proofs.masking.mask_code.Goals as goal

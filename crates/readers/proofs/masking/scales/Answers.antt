@@ -1,5 +1,4 @@
 -- `masking::scales` meets its contract: no digit, one, or two.
-use borrow.Author.Rules.{rules}
 use Rattle.readers.specs.Reading.{scales}
 use Rattle.readers.proofs.Answering.{nums, read_is}
 use Rattle.readers.proofs.masking.scales.Goals as goal

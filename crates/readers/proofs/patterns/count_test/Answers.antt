@@ -1,6 +1,5 @@
 -- `patterns::count_test` meets its contract: by the arm that the letter took.
 use mathlib.Core.Path.{refl, ◌∙◌}
-use borrow.Author.Rules.{rules}
 use Rattle.readers.specs.Reading.{class_letter, count_test}
 use Rattle.readers.proofs.Answering.{tests, read_none, read_some}
 use Rattle.readers.proofs.Taken.{chosen, missed}

@@ -1,5 +1,4 @@
 -- `patterns::literal_test` meets its contract: the quote's place, or that there is none.
-use borrow.Author.Rules.{rules}
 use Rattle.readers.specs.Reading.{literal_test}
 use Rattle.readers.proofs.Answering.{quotes, tests, read_is, read_some, passed}
 use Rattle.readers.proofs.patterns.literal_test.Goals as goal

@@ -1,7 +1,6 @@
 -- `patterns::pattern` meets its contract: a parenthesis, and tests behind it.
 use mathlib.Core.Path.{ap}
 use lib.ListN.{length}
-use borrow.Author.Rules.{rules}
 use Rattle.readers.specs.Reading.{skimmed}
 use Rattle.readers.proofs.Answering.{nums, read_by, read_none}
 use Rattle.readers.proofs.PatternReads.{pattern_open, pattern_none}

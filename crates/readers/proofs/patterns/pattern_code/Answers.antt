@@ -1,5 +1,4 @@
 -- `patterns::pattern_code` meets its contract: where the patterns begin, and the tests in them.
-use borrow.Author.Rules.{rules}
 use Rattle.readers.specs.Reading.{pattern_code}
 use Rattle.readers.proofs.Answering.{nums, conversions, read_is, read_some, passed}
 use Rattle.readers.proofs.patterns.pattern_code.Goals as goal

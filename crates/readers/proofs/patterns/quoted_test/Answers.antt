@@ -1,6 +1,5 @@
 -- `patterns::quoted_test` meets its contract: by the arm that the byte took.
 use mathlib.Core.Path.{refl}
-use borrow.Author.Rules.{rules}
 use Rattle.readers.specs.Reading.{quoted_test}
 use Rattle.readers.proofs.Answering.{tests, read_by, read_none}
 use Rattle.readers.proofs.Taken.{chosen, missed}

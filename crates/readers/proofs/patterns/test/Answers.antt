@@ -1,5 +1,4 @@
 -- `patterns::test` meets its contract: a number and a letter, or a literal.
-use borrow.Author.Rules.{rules}
 use Rattle.readers.specs.Reading.{test}
 use Rattle.readers.proofs.Answering.{nums, tests, read_is, read_by}
 use Rattle.readers.proofs.patterns.test.Goals as goal

@@ -1,14 +1,11 @@
 -- `patterns::tests` meets its contract: from test to test those counted and those still to be read stay the same.
-use Prim.Native.Nat.{◌-◌, ◌≤◌, ◌<◌}
-use mathlib.Core.Path.{◌≡◌, refl, sym, ◌∙◌}
-use lib.ListN.{length, drop}
+use Prim.Native.Nat.{◌≤◌, ◌<◌}
+use mathlib.Core.Path.{refl, sym, ◌∙◌}
+use lib.ListN.{length}
 use native.Mathlib.Omega.{arith}
-use borrow.Author.Rules.{rules}
-use Rattle.paper.specs.Grammar as paper
-use Rattle.readers.specs.Reading.{skimmed}
 use Rattle.readers.proofs.Answering.{nums, tests, read_is, read_some, passed}
 use Rattle.readers.proofs.Bytes.{peeked_within}
-use Rattle.readers.proofs.Skimming.{raised, raised_zero, skimmed_none, skimmed_last, skimmed_more}
+use Rattle.readers.proofs.Skimming.{raised_zero, skimmed_none, skimmed_last, skimmed_more}
 use Rattle.readers.proofs.PatternReads.{test_within, tests_none, tests_last, tests_more}
 use Rattle.readers.proofs.patterns.tests.Goals as goal
 

@@ -1,5 +1,4 @@
 -- `places::digit` meets its contract: the arm that the byte took says which.
-use borrow.Author.Rules.{rules}
 use Rattle.readers.proofs.Answering.{nums, read_none, read_some}
 use Rattle.readers.proofs.Taken.{digit_yes, digit_below, digit_above}
 use Rattle.readers.proofs.places.digit.Goals as goal

@@ -1,6 +1,5 @@
 -- `places::flag` meets its contract.
 use mathlib.Core.Path.{sym}
-use borrow.Author.Rules.{rules}
 use borrow.Author.Tests.{eq-eqb, ne_eqb}
 use Rattle.readers.specs.Places.{choose_or, flag}
 use Rattle.readers.proofs.places.flag.Goals as goal

@@ -1,9 +1,7 @@
 -- `places::more_digits` meets its contract: from digit to digit what is still to be read stays the same, and the value stays below 100,000.
-use Prim.Native.Nat.{◌+◌, ◌*◌, ◌^◌, ◌≤◌, ◌<◌}
-use mathlib.Core.Path.{◌≡◌, refl, sym, ◌∙◌}
+use Prim.Native.Nat.{◌≤◌, ◌<◌}
+use mathlib.Core.Path.{refl, sym, ◌∙◌}
 use native.Mathlib.Omega.{arith}
-use borrow.Author.Rules.{rules}
-use Rattle.readers.specs.Places.{more_digits}
 use Rattle.readers.proofs.Answering.{nums, read_is}
 use Rattle.readers.proofs.Taken.{digit_small, digits_more, digits_stop, digits_done, digits_start, digits_room, digits_step}
 use Rattle.readers.proofs.places.more_digits.Goals as goal

@@ -1,10 +1,6 @@
-use Prim.Native.Nat.{◌+◌, ◌*◌, ◌^◌, ◌≤◌, ◌<◌}
-use mathlib.Core.Path.{◌≡◌, refl, sym, ◌∙◌}
-use native.Mathlib.Omega.{arith}
-use borrow.Author.Rules.{rules}
+use Prim.Native.Nat.{◌+◌, ◌*◌, ◌^◌, ◌≤◌}
+use mathlib.Core.Path.{◌≡◌}
 use Rattle.readers.specs.Places.{more_digits}
-use Rattle.readers.proofs.Answering.{nums, read_is}
-use Rattle.readers.proofs.Taken.{digit_small, digits_more, digits_stop, digits_done, digits_start, digits_room, digits_step}
 use Rattle.readers.proofs.places.more_digits.Given as goal
 
 abbrev pub invariant-loop-left : goal.invariant-loop-left

@@ -1,5 +1,4 @@
 -- `places::num` meets its contract: a numeral of up to four digits.
-use borrow.Author.Rules.{rules}
 use Rattle.readers.specs.Places.{num}
 use Rattle.readers.proofs.places.num.Goals as goal
 

@@ -1,6 +1,5 @@
 -- `places::numeral` meets its contract: a digit, and the digits after it.
 use mathlib.Core.Path.{sym}
-use borrow.Author.Rules.{rules}
 use Rattle.readers.specs.Places.{numeral}
 use Rattle.readers.proofs.Answering.{nums, read_is, read_by, read_some}
 use Rattle.readers.proofs.Taken.{digit_small}

@@ -1,5 +1,4 @@
 -- `places::peek` meets its contract: inside it is the byte and one place on, past the end the segment mark and no place on.
-use borrow.Author.Rules.{rules}
 use Rattle.readers.proofs.Bytes.{peeked_inside, peeked_past}
 use Rattle.readers.proofs.places.peek.Goals as goal
 

@@ -1,9 +1,6 @@
 -- `places::quoted` meets its contract: from place to place the quote to be found stays the same.
-use Prim.Native.Nat.{◌≤◌, ◌-◌}
-use mathlib.Core.Path.{◌≡◌, refl, sym, ◌∙◌}
+use mathlib.Core.Path.{refl, sym, ◌∙◌}
 use native.Mathlib.Omega.{arith}
-use lib.ListN.{length, drop}
-use Rattle.readers.specs.Places.{closing}
 use Rattle.readers.proofs.Quotes.{closing_here, closing_on, closing_none, quoted_closed, quoted_open}
 use Rattle.readers.proofs.Answering.{quotes, read_none, read_some}
 use Rattle.readers.proofs.places.quoted.Goals as goal

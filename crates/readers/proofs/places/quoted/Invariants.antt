@@ -1,10 +1,7 @@
 use Prim.Native.Nat.{◌≤◌, ◌-◌}
-use mathlib.Core.Path.{◌≡◌, refl, sym, ◌∙◌}
-use native.Mathlib.Omega.{arith}
+use mathlib.Core.Path.{◌≡◌}
 use lib.ListN.{length, drop}
 use Rattle.readers.specs.Places.{closing}
-use Rattle.readers.proofs.Quotes.{closing_here, closing_on, closing_none, quoted_closed, quoted_open}
-use Rattle.readers.proofs.Answering.{quotes, read_none, read_some}
 use Rattle.readers.proofs.places.quoted.Given as goal
 
 abbrev pub invariant-loop-at : goal.invariant-loop-at

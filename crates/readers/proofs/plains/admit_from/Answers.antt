@@ -1,5 +1,4 @@
 -- `plains::admit_from` meets its contract.
-use borrow.Author.Rules.{rules}
 use Rattle.readers.specs.Reading.{admit_from}
 use Rattle.readers.proofs.Answering.{nums, conversions, read_is, read_some, passed}
 use Rattle.readers.proofs.plains.admit_from.Goals as goal

@@ -1,6 +1,5 @@
 -- `plains::character_code` meets its contract.
 use mathlib.Core.Path.{refl, ◌∙◌}
-use borrow.Author.Rules.{rules}
 use Rattle.readers.specs.Reading.{character_code}
 use Rattle.readers.proofs.Answering.{plain_none, plain_some, plain_by}
 use Rattle.readers.proofs.Taken.{chosen, missed}

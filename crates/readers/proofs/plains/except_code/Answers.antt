@@ -1,6 +1,5 @@
 -- `plains::except_code` meets its contract.
 use mathlib.Core.Path.{refl, ◌∙◌}
-use borrow.Author.Rules.{rules}
 use Rattle.readers.specs.Reading.{except_code}
 use Rattle.readers.proofs.Answering.{plain_none, plain_some}
 use Rattle.readers.proofs.Taken.{chosen, missed}

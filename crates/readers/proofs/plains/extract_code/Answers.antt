@@ -1,6 +1,5 @@
 -- `plains::extract_code` meets its contract.
 use mathlib.Core.Path.{refl, ap}
-use borrow.Author.Rules.{rules}
 use Rattle.readers.specs.Reading.{plained, extract_code}
 use Rattle.readers.proofs.Answering.{nums, conversions, read_is, read_some, read_by, passed}
 use Rattle.readers.proofs.Taken.{chosen, missed}

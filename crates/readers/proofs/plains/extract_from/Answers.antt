@@ -1,5 +1,4 @@
 -- `plains::extract_from` meets its contract.
-use borrow.Author.Rules.{rules}
 use Rattle.readers.specs.Reading.{extract_from}
 use Rattle.readers.proofs.Answering.{nums, conversions, read_is, read_none, read_some, passed}
 use Rattle.readers.proofs.Taken.{positive}

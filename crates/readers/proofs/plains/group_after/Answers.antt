@@ -1,7 +1,5 @@
 -- `plains::group_after` meets its contract: a separator, and a number that is not 0.
 use mathlib.Core.Path.{sym, ◌∙◌}
-use borrow.Author.Tests.{not-true, not-false}
-use borrow.Author.Rules.{rules}
 use Rattle.readers.specs.Reading.{separator, group_after}
 use Rattle.readers.proofs.Answering.{nums, conversions, read_is, read_none, read_some, passed}
 use Rattle.readers.proofs.Taken.{positive}

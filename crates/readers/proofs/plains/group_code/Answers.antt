@@ -1,5 +1,4 @@
 -- `plains::group_code` meets its contract.
-use borrow.Author.Rules.{rules}
 use Rattle.readers.specs.Places.{num}
 use Rattle.readers.specs.Reading.{group_code}
 use Rattle.readers.proofs.Answering.{nums, conversions, read_is, read_by}

@@ -1,6 +1,5 @@
 -- `plains::length_after` meets its contract.
 use mathlib.Core.Path.{refl}
-use borrow.Author.Rules.{rules}
 use Rattle.readers.specs.Reading.{length_after}
 use Rattle.readers.proofs.Answering.{plain_some, plain_by}
 use Rattle.readers.proofs.Taken.{chosen, missed}

@@ -1,5 +1,4 @@
 -- `plains::length_code` meets its contract.
-use borrow.Author.Rules.{rules}
 use Rattle.readers.specs.Places.{num}
 use Rattle.readers.specs.Reading.{length_code}
 use Rattle.readers.proofs.Answering.{nums, conversions, read_is, read_some, read_by}
