@@ -218,7 +218,7 @@ module _ (item string : Bytes) (a v s budget : ℕ) (lent : Bytes) where
       record {
         value = p ∙ ap (finished_as (length out₁)) walks.answers ∙ ended.0 ∙ ap converted_of (sym whole);
         out_after =
-          q ∙ ap (finished_out out₁) walks.answers ∙ ended.1
-              ∙ ap (λ (n : ℕ). output_after n (finished (length out₁) o)) walks.room ∙ ap (output_after (length out)) (sym whole);
+            q ∙ ap (finished_out out₁) walks.answers ∙ ended.1
+            ∙ ap (λ (n : ℕ). output_after n (finished (length out₁) o)) walks.room ∙ ap (output_after (length out)) (sym whole);
         scratch_after = z;
       }

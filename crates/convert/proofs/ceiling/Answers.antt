@@ -1,6 +1,5 @@
 -- `convert::ceiling` meets its contract: each test before the run with its own refusal, then the paper's number.
 use native.Mathlib.Omega.{arith}
-use borrow.Author.Rules.{rules}
 use Rattle.records.proofs.Refusing.{told_find, passed, stopped}
 use Rattle.convert.proofs.Stages.{refused_by}
 use Rattle.convert.proofs.Counting.{place_uncapped, code_uncapped, figures, capped}

@@ -1,6 +1,5 @@
 -- `convert::finish` meets its contract: 16 where the answer is longer than the output, zeros behind it, and zeros in the scratch.
 use mathlib.Core.Path.{◌∙◌}
-use borrow.Author.Rules.{rules}
 use Rattle.convert.proofs.Answering.{finished_stopped, finished_short, finished_whole}
 use Rattle.convert.proofs.Stages.{zero_scratch}
 use Rattle.convert.proofs.finish.Goals as goal

@@ -1,10 +1,6 @@
 -- `convert::inner_marks` meets its contract: the marks among the bytes passed, and the rest tells the rest.
-use Prim.Native.Nat.{◌+◌, ◌-◌, ◌≤◌}
-use mathlib.Core.Path.{◌≡◌}
 use native.Mathlib.Omega.{arith}
-use lib.ListN.{length, drop}
 use Rattle.paper.specs.Sizes.{is_inner_mark}
-use Rattle.convert.specs.Marks.{inner_marks}
 use Rattle.convert.proofs.Counting.{marks_hit, marks_miss, marks_all}
 use Rattle.convert.proofs.inner_marks.Goals as goal
 

@@ -1,5 +1,4 @@
 -- `convert::refusal_in` meets its contract: the number that the refused case carries.
-use borrow.Author.Rules.{rules}
 use Rattle.judging.specs.Verdicts.{report_in}
 use Rattle.convert.proofs.refusal_in.Goals as goal
 

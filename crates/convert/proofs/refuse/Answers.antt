@@ -1,6 +1,5 @@
 -- `convert::refuse` meets its contract: no steps, and zeros throughout both buffers.
 use mathlib.Core.Path.{◌∙◌}
-use borrow.Author.Rules.{rules}
 use Rattle.convert.proofs.Stages.{refused_converted, refused_output}
 use Rattle.convert.proofs.refuse.Goals as goal
 

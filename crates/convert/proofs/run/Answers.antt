@@ -1,5 +1,4 @@
 -- `convert::run` meets its contract: the walk over what the address reads is the paper's run.
-use borrow.Author.Rules.{rules}
 use Rattle.convert.proofs.Stages.{lawful_numbers, text_short, from_one_most, empty_slots, work_room, walks_run}
 use Rattle.convert.proofs.run.Goals as goal
 

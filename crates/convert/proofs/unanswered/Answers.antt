@@ -1,5 +1,4 @@
 -- `convert::unanswered` meets its contract, case by case.
-use borrow.Author.Rules.{rules}
 use Rattle.convert.specs.Finishing.{unanswered_as}
 use Rattle.convert.proofs.unanswered.Goals as goal
 

@@ -1,5 +1,4 @@
 -- `elements::add` meets its contract: the element's refusal is passed up, its answer gathered from its slot.
-use borrow.Author.Rules.{rules}
 use Rattle.elements.proofs.Elements.{adds_stopped, adds_gathered, gather_fits}
 use Rattle.elements.proofs.add.Goals as goal
 

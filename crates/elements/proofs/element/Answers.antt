@@ -1,5 +1,4 @@
 -- `elements::element` meets its contract: 9 for an over-long element, and else the run of its slot through the codes.
-use borrow.Author.Rules.{rules}
 use mathlib.Core.Path.{sym, subst}
 use native.Mathlib.Omega.{arith}
 use lib.Dec.{lit<}

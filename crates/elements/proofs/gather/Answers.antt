@@ -1,6 +1,5 @@
 -- `elements::gather` meets its contract: the bytes go in where there is room for them.
 use mathlib.Core.Path.{refl, sym, ◌∙◌}
-use borrow.Author.Rules.{rules}
 use Rattle.elements.proofs.Answering.{gathered_room, gathered_full}
 use Rattle.elements.proofs.gather.Goals as goal
 

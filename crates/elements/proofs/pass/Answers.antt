@@ -1,5 +1,4 @@
 -- `elements::pass` meets its contract: the position behind a mark.
-use borrow.Author.Rules.{rules}
 use borrow.Author.Tests.{eq-eqb, ne_eqb}
 use Rattle.paper.specs.Sizes.{value_mark}
 use Rattle.elements.specs.Running.{passed}

@@ -1,5 +1,4 @@
 -- `elements::stopped` meets its contract: the refusal with the steps before it.
-use borrow.Author.Rules.{rules}
 use Rattle.elements.specs.Running.{stopped_as}
 use Rattle.elements.proofs.stopped.Goals as goal
 

@@ -1,22 +1,8 @@
 -- `elements::walk` meets its contract: each turn adds an element and the mark behind it.
 use borrow.Author.Rules.{rules}
-use Prim.Native.Nat.{◌-◌}
-use mathlib.Core.Path.{◌≡◌, refl}
+use mathlib.Core.Path.{refl}
 use native.Mathlib.Omega.{arith}
-use lib.ListN.{length}
-use Rattle.elements.specs.Running.{elements_outcome}
-use Rattle.elements.proofs.Looping.{
-  Turn,
-  stopped_tag,
-  end_inside,
-  first_turn,
-  turn_stopped,
-  turn_last,
-  turn_gather,
-  turn_next,
-  turn_small,
-  turn_place,
-}
+use Rattle.elements.proofs.Looping.{stopped_tag, end_inside, first_turn, turn_stopped, turn_last, turn_gather, turn_next, turn_small, turn_place}
 use Rattle.elements.proofs.walk.Goals as goal
 
 pub loop-now-init : goal.loop-now-init

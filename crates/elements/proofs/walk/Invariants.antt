@@ -1,21 +1,8 @@
-use borrow.Author.Rules.{rules}
 use Prim.Native.Nat.{◌-◌}
-use mathlib.Core.Path.{◌≡◌, refl}
-use native.Mathlib.Omega.{arith}
+use mathlib.Core.Path.{◌≡◌}
 use lib.ListN.{length}
 use Rattle.elements.specs.Running.{elements_outcome}
-use Rattle.elements.proofs.Looping.{
-  Turn,
-  stopped_tag,
-  end_inside,
-  first_turn,
-  turn_stopped,
-  turn_last,
-  turn_gather,
-  turn_next,
-  turn_small,
-  turn_place,
-}
+use Rattle.elements.proofs.Looping.{Turn}
 use Rattle.elements.proofs.walk.Given as goal
 
 abbrev pub invariant-loop-now : goal.invariant-loop-now

@@ -1,6 +1,5 @@
 -- `sundewfrill::of_bound` meets its contract, case by case.
 use mathlib.Core.Path.{sym, ap}
-use borrow.Author.Rules.{rules}
 use Rattle.sundewfrill.specs.Numbers.{capping_in}
 use Rattle.sundewfrill.proofs.of_bound.Goals as goal
 

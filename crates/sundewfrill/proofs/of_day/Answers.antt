@@ -1,6 +1,5 @@
 -- `sundewfrill::of_day` meets its contract, case by case.
 use mathlib.Core.Path.{sym, ap, ◌∙◌}
-use borrow.Author.Rules.{rules}
 use Rattle.sundewfrill.specs.Numbers.{dating_in}
 use Rattle.sundewfrill.proofs.Told.{day_case}
 use Rattle.sundewfrill.proofs.of_day.Goals as goal

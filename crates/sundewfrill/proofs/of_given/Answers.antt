@@ -1,6 +1,5 @@
 -- `sundewfrill::of_given` meets its contract, case by case.
 use mathlib.Core.Path.{sym, ap}
-use borrow.Author.Rules.{rules}
 use Rattle.paper.specs.Answers.{refusal_in, length_in}
 use Rattle.sundewfrill.specs.Numbers.{replacing_in}
 use Rattle.sundewfrill.proofs.of_given.Goals as goal

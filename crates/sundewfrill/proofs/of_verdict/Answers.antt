@@ -1,6 +1,5 @@
 -- `sundewfrill::of_verdict` meets its contract, case by case.
 use mathlib.Core.Path.{sym, ap}
-use borrow.Author.Rules.{rules}
 use Rattle.judging.specs.Verdicts.{report_in}
 use Rattle.sundewfrill.specs.Numbers.{checking_in}
 use Rattle.sundewfrill.proofs.of_verdict.Goals as goal

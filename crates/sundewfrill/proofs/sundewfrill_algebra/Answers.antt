@@ -1,5 +1,4 @@
 -- `sundewfrill::sundewfrill_algebra` meets its contract: the numbers and the output are those of showing.
-use borrow.Author.Rules.{rules}
 use Rattle.sundewfrill.proofs.Told.{replaced_told}
 use Rattle.sundewfrill.proofs.sundewfrill_algebra.Goals as goal
 

@@ -1,5 +1,4 @@
 -- `sundewfrill::sundewfrill_ceiling` meets its contract: the numbers are those of the ceiling.
-use borrow.Author.Rules.{rules}
 use Rattle.sundewfrill.proofs.Told.{capped_told}
 use Rattle.sundewfrill.proofs.sundewfrill_ceiling.Goals as goal
 

@@ -1,5 +1,4 @@
 -- `sundewfrill::sundewfrill_check` meets its contract: the numbers are those of the paper's report.
-use borrow.Author.Rules.{rules}
 use Rattle.sundewfrill.proofs.Told.{checked_told}
 use Rattle.sundewfrill.proofs.sundewfrill_check.Goals as goal
 

@@ -1,5 +1,4 @@
 -- `sundewfrill::sundewfrill_convert` meets its contract: the numbers and both buffers are those of converting.
-use borrow.Author.Rules.{rules}
 use Rattle.sundewfrill.proofs.Told.{converted_told}
 use Rattle.sundewfrill.proofs.sundewfrill_convert.Goals as goal
 

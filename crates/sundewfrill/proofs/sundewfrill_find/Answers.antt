@@ -1,5 +1,4 @@
 -- `sundewfrill::sundewfrill_find` meets its contract: the numbers are those of finding.
-use borrow.Author.Rules.{rules}
 use Rattle.sundewfrill.proofs.Told.{found_told}
 use Rattle.sundewfrill.proofs.sundewfrill_find.Goals as goal
 

@@ -1,5 +1,4 @@
 -- `sundewfrill::sundewfrill_typed_date` meets its contract: the numbers are those of the typed date.
-use borrow.Author.Rules.{rules}
 use Rattle.sundewfrill.proofs.Told.{dated_told}
 use Rattle.sundewfrill.proofs.sundewfrill_typed_date.Goals as goal
 

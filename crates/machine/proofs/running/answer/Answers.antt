@@ -1,5 +1,4 @@
 -- `machine::running::answer` meets its contract: the top entry goes into the element's slot.
-use borrow.Author.Rules.{rules}
 use native.Mathlib.Omega.{arith}
 use Rattle.stack.proofs.Putting.{entry_fits}
 use Rattle.machine.proofs.Turns.{runs_answered}

@@ -1,5 +1,4 @@
 -- `machine::running::charge_code` meets its contract: the refusal as it is, or the bytes in front of the work buffer as `charge_element`.
-use borrow.Author.Rules.{rules}
 use mathlib.Core.Path.{ap}
 use native.Mathlib.Omega.{arith}
 use lib.ListN.{length-take}

@@ -1,5 +1,4 @@
 -- `machine::running::charge_element` meets its contract: 15 with nothing put, or the bytes in the element's slot.
-use borrow.Author.Rules.{rules}
 use native.Mathlib.Omega.{arith}
 use Rattle.paper.specs.Sizes.{entry_most}
 use Rattle.machine.proofs.Turns.{runs_as, runs_stopped, runs_answered}

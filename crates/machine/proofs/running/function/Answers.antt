@@ -1,5 +1,4 @@
 -- `machine::running::function` meets its contract: the elms' refusal as it is, or the top of the stack that they leave.
-use borrow.Author.Rules.{rules}
 use Rattle.machine.proofs.Turns.{runs_as, function_stops, function_held, function_answers}
 use Rattle.machine.proofs.running.function.Goals as goal
 

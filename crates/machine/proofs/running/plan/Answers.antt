@@ -1,7 +1,6 @@
 -- `machine::running::plan` meets its contract: way by way.
 use mathlib.Core.Path.{ap, ◌∙◌}
 use mathlib.Core.Option.{some}
-use borrow.Author.Rules.{rules}
 use Rattle.readers.proofs.Answering.{read_is}
 use Rattle.grammar.proofs.Answering.{heads}
 use Rattle.machine.proofs.Plans.{plan_function, plan_alone, plan_parted, plan_bad}

@@ -1,5 +1,4 @@
 -- `machine::running::run_code` meets its contract: the elms of an F code, or one step on the element.
-use borrow.Author.Rules.{rules}
 use mathlib.Core.Path.{ap, ◌∙◌}
 use mathlib.Core.Option.{some}
 use native.Mathlib.Omega.{arith}

@@ -1,5 +1,4 @@
 -- `machine::running::run_codes` meets its contract: an empty string leaves the element; any other is run by its plan.
-use borrow.Author.Rules.{rules}
 use mathlib.Core.Path.{ap}
 use Rattle.paper.specs.Checking.{Checked}
 use Rattle.machine.specs.Runs.{codes_outcome}

@@ -1,24 +1,9 @@
 -- `machine::running::run_elms` meets its contract: each turn reads an elm, takes its step and counts it; the last leaves the stack.
-use borrow.Author.Rules.{rules}
-use mathlib.Core.Path.{◌≡◌, refl, ◌∙◌}
-use Prim.Native.Nat.{◌-◌}
+use mathlib.Core.Path.{refl, ◌∙◌}
 use native.Mathlib.Omega.{arith}
-use lib.ListN.{length}
 use Rattle.readers.proofs.Answering.{read_is}
 use Rattle.grammar.proofs.Answering.{elms}
-use Rattle.machine.proofs.Turns.{
-  Turn,
-  stretch_refused,
-  turn_first,
-  turn_not,
-  turn_room,
-  turn_elm,
-  turn_place,
-  turn_stops,
-  turn_counted,
-  turn_more,
-  turn_last,
-}
+use Rattle.machine.proofs.Turns.{stretch_refused, turn_first, turn_not, turn_room, turn_elm, turn_place, turn_stops, turn_counted, turn_more, turn_last}
 use Rattle.machine.proofs.running.run_elms.Goals as goal
 
 pub loop-elm-init : goal.loop-elm-init

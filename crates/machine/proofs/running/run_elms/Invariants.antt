@@ -1,23 +1,7 @@
-use borrow.Author.Rules.{rules}
-use mathlib.Core.Path.{◌≡◌, refl, ◌∙◌}
+use mathlib.Core.Path.{◌≡◌}
 use Prim.Native.Nat.{◌-◌}
-use native.Mathlib.Omega.{arith}
 use lib.ListN.{length}
-use Rattle.readers.proofs.Answering.{read_is}
-use Rattle.grammar.proofs.Answering.{elms}
-use Rattle.machine.proofs.Turns.{
-  Turn,
-  stretch_refused,
-  turn_first,
-  turn_not,
-  turn_room,
-  turn_elm,
-  turn_place,
-  turn_stops,
-  turn_counted,
-  turn_more,
-  turn_last,
-}
+use Rattle.machine.proofs.Turns.{Turn}
 use Rattle.machine.proofs.running.run_elms.Given as goal
 
 abbrev pub invariant-loop-elm : goal.invariant-loop-elm

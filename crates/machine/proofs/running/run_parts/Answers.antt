@@ -1,10 +1,7 @@
 -- `machine::running::run_parts` meets its contract: each turn runs the code up to the next mark; a refusal or the last code's answer is the run's.
-use borrow.Author.Rules.{rules}
-use mathlib.Core.Path.{◌≡◌, refl, ◌∙◌}
-use Prim.Native.Nat.{◌-◌}
+use mathlib.Core.Path.{refl, ◌∙◌}
 use native.Mathlib.Omega.{arith}
-use lib.ListN.{length}
-use Rattle.machine.proofs.Parts.{Part, part_first, part_ends, part_well, part_short, part_stops, part_last, part_more}
+use Rattle.machine.proofs.Parts.{part_first, part_ends, part_well, part_short, part_stops, part_last, part_more}
 use Rattle.machine.proofs.running.run_parts.Goals as goal
 
 pub loop-counted-init : goal.loop-counted-init

@@ -1,9 +1,7 @@
-use borrow.Author.Rules.{rules}
-use mathlib.Core.Path.{◌≡◌, refl, ◌∙◌}
+use mathlib.Core.Path.{◌≡◌}
 use Prim.Native.Nat.{◌-◌}
-use native.Mathlib.Omega.{arith}
 use lib.ListN.{length}
-use Rattle.machine.proofs.Parts.{Part, part_first, part_ends, part_well, part_short, part_stops, part_last, part_more}
+use Rattle.machine.proofs.Parts.{Part}
 use Rattle.machine.proofs.running.run_parts.Given as goal
 
 abbrev pub invariant-loop-counted : goal.invariant-loop-counted

@@ -1,5 +1,4 @@
 -- `machine::running::run_planned` meets its contract: the one step of a single code, or the codes in their turn.
-use borrow.Author.Rules.{rules}
 use mathlib.Core.Path.{ap, sym, ◌∙◌}
 use Rattle.paper.specs.Bytes.{Bytes}
 use Rattle.paper.specs.Steps.{Run}

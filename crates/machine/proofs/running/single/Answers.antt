@@ -1,5 +1,4 @@
 -- `machine::running::single` meets its contract: what the code gives on the element, put in its place.
-use borrow.Author.Rules.{rules}
 use mathlib.Core.Path.{ap}
 use native.Mathlib.Omega.{arith}
 use Rattle.paper.specs.Bytes.{Bytes}

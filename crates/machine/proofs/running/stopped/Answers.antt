@@ -1,5 +1,4 @@
 -- `machine::running::stopped` meets its contract: the refusal with the steps before it.
-use borrow.Author.Rules.{rules}
 use Rattle.machine.specs.Runs.{stopped_as}
 use Rattle.machine.proofs.running.stopped.Goals as goal
 

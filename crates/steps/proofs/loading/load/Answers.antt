@@ -1,7 +1,6 @@
 -- `steps::loading::load` meets its contract: the part at the place that the elm's `R`s name.
 use mathlib.Core.Path.{◌∙◌, ap}
 use mathlib.Core.List.{List}
-use borrow.Author.Rules.{rules}
 use Rattle.paper.specs.Records.{Turn, reads}
 use Rattle.codes.specs.Meaning.{repeat_of}
 use Rattle.steps.proofs.Operands.{load_id, loads}

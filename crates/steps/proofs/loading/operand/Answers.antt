@@ -1,6 +1,5 @@
 -- `steps::loading::operand` meets its contract: a part of the record, or of the code, or none.
 use native.Mathlib.Omega.{arith}
-use borrow.Author.Rules.{rules}
 use Rattle.steps.proofs.Operands.{literal_ends, attribute_operand, literal_operand, previous_operand}
 use Rattle.steps.proofs.loading.operand.Goals as goal
 

@@ -1,5 +1,4 @@
 -- `steps::stepping::binary` meets its contract: what the operator gives of the two entries, put in their place.
-use borrow.Author.Rules.{rules}
 use native.Mathlib.Omega.{arith}
 use Rattle.paper.specs.Sizes.{entry_most}
 use Rattle.stack.proofs.Putting.{entry_read}

@@ -1,5 +1,4 @@
 -- `steps::stepping::convert` meets its contract: what the code gives of the entry, put in its place.
-use borrow.Author.Rules.{rules}
 use native.Mathlib.Omega.{arith}
 use Rattle.paper.specs.Sizes.{entry_most}
 use Rattle.stack.proofs.Putting.{entry_read}

@@ -1,5 +1,4 @@
 -- `steps::stepping::duplicate` meets its contract: the top entry once more, by the length that its slot says.
-use borrow.Author.Rules.{rules}
 use native.Mathlib.Omega.{arith}
 use Rattle.paper.specs.Sizes.{entry_most}
 use Rattle.stack.proofs.Putting.{entry_length}

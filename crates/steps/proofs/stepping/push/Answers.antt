@@ -1,5 +1,4 @@
 -- `steps::stepping::push` meets its contract: the operand, or the element's slot, as the elm's step puts it.
-use borrow.Author.Rules.{rules}
 use Rattle.stack.proofs.Charges.{charges_as}
 use Rattle.steps.proofs.Elms.{attribute_on, literal_on, previous_on}
 use Rattle.steps.proofs.stepping.push.Goals as goal

@@ -1,5 +1,4 @@
 -- `steps::stepping::step` meets its contract: each elm as the function for it leaves the slots, on the entries that it finds.
-use borrow.Author.Rules.{rules}
 use native.Mathlib.Omega.{arith}
 use Rattle.paper.specs.Checking.{shape}
 use Rattle.codes.specs.Meaning.{elm_of}

@@ -1,5 +1,4 @@
 -- `steps::stepping::substring` meets its contract: what `[]` gives of the three entries, put in their place.
-use borrow.Author.Rules.{rules}
 use native.Mathlib.Omega.{arith}
 use Rattle.paper.specs.Sizes.{entry_most}
 use Rattle.stack.proofs.Putting.{entry_read}
