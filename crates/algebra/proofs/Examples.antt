@@ -1,12 +1,13 @@
 -- Document 02, L4: examples of A codes shown as F, of what is refused, and of values, as tables under one theorem each, by computation.
 -- Assumes nothing.
+use Rattle.std.specs.Prelude.{if◌then◌else◌}
 use Prim.Native.Nat.{ℕ, zero, suc}
 use Prim.Native.String.{String}
 use mathlib.Core.Path.{◌≡◌, refl}
 use mathlib.Core.List.{List, [], ◌∷◌, ◌++◌, map}
 use lib.Dec.{eqb}
 use lib.ListN.{replicate}
-use Rattle.paper.specs.Bytes.{Bytes, if◌then◌else◌, ch, bytes, is_digit, digit_value, any}
+use Rattle.paper.specs.Bytes.{Bytes, ch, bytes, is_digit, digit_value, any}
 use Rattle.paper.specs.Sizes.{attribute_mark, value_mark, subvalue_mark, code_most, entry_most, is_mark}
 use Rattle.paper.specs.Refusals.{Res, refusal_of, answer_of, ◌>>=◌}
 use Rattle.paper.specs.Records.{split, join, placed, pieces, nth, path, part_at, whole, place, reads}

@@ -1,5 +1,6 @@
 -- Document 02, L4: what an A code's readers read is spelt as F reads it, elm by elm and with no mark, so that the F text of an expression is read
 -- as its elms, and the check accepts it or refuses it with 7. For any fuel and depth of the readers. Assumes nothing.
+use Rattle.std.specs.Prelude.{if◌then◌else◌}
 use Prim.Native.Nat.{ℕ, zero, suc, ◌-◌, ◌≤◌}
 use native.Mathlib.Omega.{arith}
 use mathlib.Core.Path.{◌≡◌, refl, sym, ap, ◌∙◌}
@@ -11,7 +12,7 @@ use lib.Dec.{eqb}
 use lib.ListN.{length, take, length-append}
 use lib.Seq.{take_at}
 use borrow.Author.Tests.{le-leb, ne_eqb}
-use Rattle.paper.specs.Bytes.{Bytes, if◌then◌else◌, ch, bytes, is_digit, any}
+use Rattle.paper.specs.Bytes.{Bytes, ch, bytes, is_digit, any}
 use Rattle.paper.specs.Sizes.{is_mark, value_mark, code_most}
 use Rattle.paper.specs.Records.{join}
 use Rattle.paper.specs.Codes.{Elm, Code}

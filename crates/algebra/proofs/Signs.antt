@@ -1,4 +1,5 @@
 -- An operator in F's spelling, and the place after it. Assumes nothing.
+use Rattle.std.specs.Prelude.{if◌then◌else◌}
 use Prim.Native.Nat.{ℕ, ◌<◌}
 use native.Mathlib.Omega.{arith}
 use mathlib.Core.Path.{◌≡◌, refl, sym, ap, ◌∙◌}
@@ -8,7 +9,7 @@ use mathlib.Core.Option.{Option, none, some}
 use lib.ListN.{drop}
 use lib.Dec.{eqb, lit<}
 use borrow.Author.Tests.{eq-eqb, ne_eqb, eqb-true, eqb-false}
-use Rattle.paper.specs.Bytes.{Bytes, if◌then◌else◌, ch}
+use Rattle.paper.specs.Bytes.{Bytes, ch}
 use Rattle.paper.specs.Grammar as paper
 use Rattle.readers.specs.Places.{Peeked, byte_at, after}
 use Rattle.algebra.specs.Expressions.{Operator}

@@ -1,4 +1,5 @@
 -- What showing answers and writes, stage by stage: the tests of the A code, those of its F text, and the output. Assumes nothing.
+use Rattle.std.specs.Prelude.{if◌then◌else◌}
 use Prim.Native.Nat.{ℕ, ◌+◌, ◌-◌, ◌≤◌, ◌<◌}
 use native.Mathlib.Omega.{arith}
 use native.Mathlib.Nat.{sub-zero}
@@ -10,7 +11,7 @@ use lib.ListN.{length, take, drop, set, replicate, length-take, length-append, l
 use lib.Seq.{take_at, length-take-le}
 use lib.Dec.{leb, eqb, lit<}
 use borrow.Author.Tests.{le-leb, lt-leb, eq-eqb, ne_eqb}
-use Rattle.paper.specs.Bytes.{Bytes, if◌then◌else◌, ch, any, buffer}
+use Rattle.paper.specs.Bytes.{Bytes, ch, any, buffer}
 use Rattle.paper.specs.Sizes.{is_mark, code_most}
 use Rattle.paper.specs.Grammar as paper
 use Rattle.paper.specs.Checking.{Checked, accepted, faulty, check, checked_codes}

@@ -1,7 +1,7 @@
 -- Document 02, L4: the grammar of an A code, in the readers of crates/paper/specs/Grammar.antt, which look one byte ahead and commit.
-use Rattle.std.specs.Prelude.{ℕ, zero, suc, ◌-◌, [], ◌∷◌, length, take, eqb}
+use Rattle.std.specs.Prelude.{ℕ, zero, suc, ◌-◌, [], ◌∷◌, length, take, eqb, if◌then◌else◌}
 use Rattle.std.proofs.Math.Option.{Option, none, some}
-use Rattle.paper.specs.Bytes.{Bytes, if◌then◌else◌, ch, bytes, any}
+use Rattle.paper.specs.Bytes.{Bytes, ch, bytes, any}
 use Rattle.paper.specs.Sizes.{is_mark}
 use Rattle.paper.specs.Numbers.{Binary, Relation}
 use Rattle.paper.specs.Codes.{Elm}

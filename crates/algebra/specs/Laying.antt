@@ -1,7 +1,7 @@
 -- What the code's readers leave, as facts of its own answer: the place after what was read, and its elms laid behind the F text so far.
-use Rattle.std.specs.Prelude.{ℕ, ◌+◌, ◌*◌, ◌≤◌, ◌<◌, ◌≡◌, Bool, true, false, List, [], ◌∷◌, ◌++◌, length, drop, eqb}
+use Rattle.std.specs.Prelude.{ℕ, ◌+◌, ◌*◌, ◌≤◌, ◌<◌, ◌≡◌, Bool, true, false, List, [], ◌∷◌, ◌++◌, length, drop, eqb, if◌then◌else◌}
 use Rattle.std.proofs.Math.Option.{Option, none, some}
-use Rattle.paper.specs.Bytes.{Bytes, if◌then◌else◌, ch, bytes}
+use Rattle.paper.specs.Bytes.{Bytes, ch, bytes}
 use Rattle.paper.specs.Codes.{Elm}
 use Rattle.codes.specs.declared.Elm as codes
 use Rattle.codes.specs.declared.Operand as operands

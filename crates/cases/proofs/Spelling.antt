@@ -1,4 +1,5 @@
 -- What a field spells, piece by piece: a byte as it stands, or what the next two braces hold.
+use Rattle.std.specs.Prelude.{if◌then◌else◌}
 use Prim.Native.Nat.{ℕ, zero, suc, ◌+◌, ◌-◌, ◌≤◌, ◌<◌}
 use mathlib.Core.Path.{◌≡◌, refl, sym, ap, ap₂, ◌∙◌}
 use mathlib.Core.Bool.{Bool, true, false, true≢false, ◌&&◌, and-false}
@@ -9,7 +10,7 @@ use lib.Dec.{ltb, eqb}
 use lib.Seq.{drop-drop}
 use native.Mathlib.Omega.{arith}
 use borrow.Author.Tests.{ne_eqb, ltb-true, lt-ltb, le-ltb}
-use Rattle.paper.specs.Bytes.{Bytes, if◌then◌else◌, within}
+use Rattle.paper.specs.Bytes.{Bytes, within}
 use Rattle.paper.proofs.Ranges.{within_one}
 use Rattle.lent.specs.Scan.{upto, piece}
 use Rattle.lent.proofs.Scans.{next}

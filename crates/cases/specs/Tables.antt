@@ -1,7 +1,7 @@
 -- What a table of cases spells: numbers, bytes in braces, marks as they are drawn; and how much of a text is laid into a buffer.
-use Rattle.std.specs.Prelude.{ℕ, ◌+◌, ◌-◌, ◌*◌, min, Bool, true, ◌&&◌, [], ◌∷◌, ◌++◌, map, ltb, eqb, length, take, replicate}
+use Rattle.std.specs.Prelude.{ℕ, ◌+◌, ◌-◌, ◌*◌, min, Bool, true, ◌&&◌, [], ◌∷◌, ◌++◌, map, ltb, eqb, length, take, replicate, if◌then◌else◌}
 use Rattle.std.proofs.Math.Option.{Option, none, some}
-use Rattle.paper.specs.Bytes.{Bytes, if◌then◌else◌, ch, is_digit, digit_value}
+use Rattle.paper.specs.Bytes.{Bytes, ch, is_digit, digit_value}
 use Rattle.paper.specs.Sizes.{attribute_mark, value_mark, subvalue_mark}
 use Rattle.paper.specs.Program.{drawn}
 use Rattle.lent.specs.Over.{over}

@@ -5,9 +5,8 @@
 
 pub mod lines;
 
-ghost use Rattle.std.specs.Prelude.{◌≡◌, ◌++◌, map, true, ◌+◌, ◌≤◌, ◌<◌, min, length, drop, get_or, replicate, ltb};
+ghost use Rattle.std.specs.Prelude.{◌≡◌, ◌++◌, map, true, ◌+◌, ◌≤◌, ◌<◌, min, length, drop, get_or, replicate, ltb, if◌then◌else◌};
 ghost use Rattle.std.proofs.Math.Option.{none};
-ghost use Rattle.paper.specs.Bytes.{if◌then◌else◌};
 ghost use Rattle.std.specs.Counts.{IsPrefixLen};
 ghost use Rattle.lent.specs.Scan.{upto, piece};
 ghost use Rattle.cases.specs.Tables.{shown, shown_byte, meant, laid, behind, digit, number, braced, unbraced, spelled};

@@ -1,4 +1,5 @@
 -- How the walk ends: converting's own answer and output, against the paper's outcome. Assumes nothing.
+use Rattle.std.specs.Prelude.{if◌then◌else◌}
 use Prim.Native.Nat.{ℕ, ◌+◌, ◌-◌, ◌≤◌, ◌<◌}
 use mathlib.Core.Path.{◌≡◌, refl, ◌∙◌}
 use mathlib.Core.Bool.{Bool, true, false}
@@ -9,7 +10,7 @@ use lib.Seq.{drop-length}
 use native.Mathlib.Nat.{sub-zero}
 use lib.Dec.{leb}
 use borrow.Author.Tests.{le-leb, lt-leb, leb-true}
-use Rattle.paper.specs.Bytes.{Bytes, if◌then◌else◌, buffer}
+use Rattle.paper.specs.Bytes.{Bytes, buffer}
 use Rattle.lent.specs.Over.{over}
 use Rattle.elements.specs.Gather.{HoldsAnswer, walks, walked_of}
 use Rattle.elements.specs.declared.Walked.{Walked}

@@ -1,6 +1,6 @@
 -- What converting answers once the walk over the elements is over, and the output then.
-use Rattle.std.specs.Prelude.{ℕ, ◌-◌, ◌++◌, length, take, replicate, leb}
-use Rattle.paper.specs.Bytes.{Bytes, if◌then◌else◌}
+use Rattle.std.specs.Prelude.{ℕ, ◌-◌, ◌++◌, length, take, replicate, leb, if◌then◌else◌}
+use Rattle.paper.specs.Bytes.{Bytes}
 use Rattle.paper.specs.Refusals.{refused, refusal_of, answer_of, short_output}
 use Rattle.paper.specs.Converting.{Outcome, convert}
 use Rattle.elements.specs.declared.Walked.{Walked}

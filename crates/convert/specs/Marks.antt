@@ -1,6 +1,6 @@
 -- The marks that part elements, counted: how many elements there are. Furniture for the proofs: proofs/Counting.antt ties it to the paper's `elements`.
-use Rattle.std.specs.Prelude.{ℕ, ◌+◌, [], ◌∷◌}
-use Rattle.paper.specs.Bytes.{Bytes, if◌then◌else◌}
+use Rattle.std.specs.Prelude.{ℕ, ◌+◌, [], ◌∷◌, if◌then◌else◌}
+use Rattle.paper.specs.Bytes.{Bytes}
 use Rattle.paper.specs.Sizes.{is_inner_mark}
 
 -- how many bytes part elements

@@ -1,12 +1,12 @@
 -- The year of a day by a division and one comparison is that of the definition, and the day of a date is its sum; a year has at most 366 days.
 -- Assumes nothing.
+use Rattle.std.specs.Prelude.{if◌then◌else◌}
 use Prim.Native.Nat.{ℕ, ◌+◌, ◌-◌, ◌*◌, ◌/◌, ◌≤◌, ◌<◌}
 use mathlib.Core.Path.{◌≡◌}
 use mathlib.Core.Bool.{Bool, true, false}
 use native.Mathlib.Numerals.{add-one, sub-one}
 use native.Mathlib.Omega.{arith}
 use borrow.Author.Tests.{le-leb, lt-leb}
-use Rattle.paper.specs.Bytes.{if◌then◌else◌}
 use Rattle.paper.specs.Dates.{Date, leap, month_lengths, days_before_year, days_in, days_to, year_of}
 use Rattle.paper.proofs.Calendar.{months_fill, year_length}
 

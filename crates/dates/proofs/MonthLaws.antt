@@ -1,4 +1,5 @@
 -- Document 02, L6: why the formula counts the days before a month, and turned round finds the month of a day. Assumes nothing.
+use Rattle.std.specs.Prelude.{if◌then◌else◌}
 use Prim.Native.Nat.{ℕ, zero, suc, ◌+◌, ◌-◌, ◌*◌, ◌/◌, ◌≤◌, ◌<◌}
 use mathlib.Core.Path.{◌≡◌, refl}
 use mathlib.Core.Bool.{Bool, true, false, ◌&&◌}
@@ -9,7 +10,6 @@ use native.Mathlib.Omega.{arith}
 use lib.ListN.{length, get_or}
 use lib.Dec.{leb, ltb, eqb}
 use borrow.Author.Tests.{eqb-true, ltb-true, ltb-false, leb-true, leb-false}
-use Rattle.paper.specs.Bytes.{if◌then◌else◌}
 use Rattle.paper.specs.Dates.{leap, month_lengths, days_in, month_day}
 use Rattle.paper.proofs.Calendar.{twelve, year_day_at}
 use Rattle.paper.proofs.Truths.{passed}

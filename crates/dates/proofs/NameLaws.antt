@@ -1,4 +1,5 @@
 -- A month by its name: the search of the table is the definition's, and a byte that is no letter is in no name. Assumes nothing.
+use Rattle.std.specs.Prelude.{if◌then◌else◌}
 use Prim.Native.Nat.{ℕ, zero, suc, ◌+◌, ◌-◌, ◌*◌, ◌≤◌, ◌<◌}
 use mathlib.Core.Path.{◌≡◌, refl, sym, ◌∙◌}
 use mathlib.Core.Bool.{Bool, true, false, ◌&&◌, ◌||◌, and-true, and-false, false≢true}
@@ -9,7 +10,7 @@ use native.Mathlib.Omega.{arith}
 use lib.ListN.{length, drop, get_or, length-drop}
 use lib.Seq.{drop-cons}
 use lib.Dec.{eqb}
-use Rattle.paper.specs.Bytes.{Bytes, if◌then◌else◌, bytes, is_letter, is_upper, is_lower, same_bytes}
+use Rattle.paper.specs.Bytes.{Bytes, bytes, is_letter, is_upper, is_lower, same_bytes}
 use Rattle.paper.specs.Texts.{raised}
 use Rattle.paper.specs.Grammar.{Reader, gives}
 use Rattle.paper.specs.Dates.{month_names}

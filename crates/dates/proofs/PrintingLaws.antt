@@ -1,4 +1,5 @@
 -- What D prints, piece by piece over the lent buffer, and its refusals. Assumes nothing.
+use Rattle.std.specs.Prelude.{if◌then◌else◌}
 use Prim.Native.Nat.{ℕ, zero, suc, pred, ◌+◌, ◌-◌, ◌*◌, ◌≤◌, ◌<◌}
 use mathlib.Core.Path.{◌≡◌, refl, sym, ◌∙◌, ap}
 use mathlib.Core.Bool.{Bool, true, false}
@@ -9,7 +10,7 @@ use native.Mathlib.Omega.{arith}
 use lib.ListN.{length, take, drop, get_or, set, length-append}
 use lib.Dec.{leb}
 use borrow.Author.Tests.{le-leb, leb-true}
-use Rattle.paper.specs.Bytes.{Bytes, if◌then◌else◌}
+use Rattle.paper.specs.Bytes.{Bytes}
 use Rattle.paper.specs.Sizes.{entry_most}
 use Rattle.paper.specs.Refusals.{Res, given, refused, refuse◌unless◌, ◌>>=◌, ◌>>◌}
 use Rattle.paper.specs.Answers.{given_of, written}

@@ -1,4 +1,5 @@
 -- The rule of each table, proved at all of its entries by one test that is computed. Assumes nothing.
+use Rattle.std.specs.Prelude.{if◌then◌else◌}
 use Prim.Native.Nat.{ℕ, ◌+◌, ◌*◌, ◌≤◌, ◌<◌}
 use mathlib.Core.Path.{◌≡◌, refl, ap₂}
 use mathlib.Core.Bool.{Bool, true, false, ◌&&◌, false≢true}
@@ -6,7 +7,7 @@ use mathlib.Core.List.{List, [], ◌∷◌}
 use lib.ListN.{get_or, take, drop}
 use lib.Dec.{eqb}
 use borrow.Author.Tests.{eqb-true}
-use Rattle.paper.specs.Bytes.{if◌then◌else◌, bytes, same_bytes}
+use Rattle.paper.specs.Bytes.{bytes, same_bytes}
 use Rattle.paper.specs.Dates.{leap, month_lengths, month_names}
 use Rattle.paper.proofs.Calendar.{lengths_by, lengths_are, within_all}
 use Rattle.paper.proofs.Truths.{both, below, passed}

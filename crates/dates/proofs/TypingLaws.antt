@@ -1,4 +1,5 @@
 -- The readers of a typed date, piece by piece: each is what its first digit, letter or separator decides. Assumes nothing.
+use Rattle.std.specs.Prelude.{if◌then◌else◌}
 use Prim.Native.Nat.{ℕ, zero, suc, ◌+◌, ◌*◌, ◌≤◌}
 use mathlib.Core.Path.{◌≡◌, refl, ◌∙◌, ap}
 use mathlib.Core.Bool.{Bool, true, false}
@@ -6,7 +7,7 @@ use mathlib.Core.List.{[], ◌∷◌}
 use mathlib.Core.Option.{Option, none, some}
 use native.Mathlib.Omega.{arith}
 use lib.ListN.{length, drop}
-use Rattle.paper.specs.Bytes.{Bytes, if◌then◌else◌, is_digit, digit_value}
+use Rattle.paper.specs.Bytes.{Bytes, is_digit, digit_value}
 use Rattle.paper.specs.Grammar.{Reader, follow, all_read, ahead, this, numeral, more_digits}
 use Rattle.dates.specs.declared.Read.{Read}
 use Rattle.dates.specs.declared.Read.TheVariants.{Found}

@@ -1,7 +1,7 @@
 -- What the readers of this crate find, beside the readers of the definitions: proof furniture, which the laws tie to the definitions.
-use Rattle.std.specs.Prelude.{ℕ, zero, suc, ◌+◌, ◌*◌, ◌≤◌, ◌≡◌, Bool, true, false, length, drop}
+use Rattle.std.specs.Prelude.{ℕ, zero, suc, ◌+◌, ◌*◌, ◌≤◌, ◌≡◌, Bool, true, false, length, drop, if◌then◌else◌}
 use Rattle.std.proofs.Math.Option.{Option, none, some}
-use Rattle.paper.specs.Bytes.{Bytes, if◌then◌else◌}
+use Rattle.paper.specs.Bytes.{Bytes}
 use Rattle.paper.specs.Refusals.{Res, given, refused, not_convertible, ◌>>=◌ as ◌then◌}
 use Rattle.paper.specs.Numbers.{plus, natural, signed}
 use Rattle.paper.specs.Grammar.{Reader, ◌>>=◌, ◌>>◌, gives, this}

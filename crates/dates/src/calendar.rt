@@ -1,7 +1,6 @@
 // The calendar: days counted from 1 January of year 1, and their dates.
-ghost use Rattle.std.specs.Prelude.{◌≡◌, true, ◌+◌, ◌≤◌, ◌<◌, get_or};
+ghost use Rattle.std.specs.Prelude.{◌≡◌, true, ◌+◌, ◌≤◌, ◌<◌, get_or, if◌then◌else◌};
 ghost use Rattle.paper.specs.Dates.{leap, month_lengths, days_before_year, days_in, days_to, year_of, month_day, date_of, day_zero, last_day};
-ghost use Rattle.paper.specs.Bytes.{if◌then◌else◌};
 ghost use Rattle.paper.specs.TypedDates.{in_calendar};
 ghost use Rattle.dates.specs.Dated.{paper_date, code_date};
 

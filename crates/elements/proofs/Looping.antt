@@ -1,4 +1,5 @@
 -- The loop over the elements: what is known at each turn, and how a turn ends or leads to the next. Assumes nothing.
+use Rattle.std.specs.Prelude.{if◌then◌else◌}
 use Prim.Native.Nat.{ℕ, ◌+◌, ◌-◌, ◌*◌, ◌^◌, ◌≤◌, ◌<◌}
 use mathlib.Core.Path.{◌≡◌, refl, sym, ap, ◌∙◌, subst, subst₃}
 use mathlib.Core.Bool.{Bool, true, false}
@@ -9,7 +10,7 @@ use lib.ListN.{length, take, drop, get_or, length-append, length-drop, length-ta
 use lib.Seq.{drop-drop, drop-cons}
 use lib.Dec.{eqb}
 use borrow.Author.Tests.{eqb-true, eqb-false}
-use Rattle.paper.specs.Bytes.{Bytes, if◌then◌else◌, within}
+use Rattle.paper.specs.Bytes.{Bytes, within}
 use Rattle.paper.specs.Sizes.{entry_most, record_most, position_most, value_mark, subvalue_mark}
 use Rattle.paper.specs.Refusals.{Res, given, refused, answer_of}
 use Rattle.paper.specs.Converting.{Outcome, within_budget}

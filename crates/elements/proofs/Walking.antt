@@ -1,4 +1,5 @@
 -- One walk from left to right visits exactly the elements of an address, each with its own position and the mark before it. Assumes nothing.
+use Rattle.std.specs.Prelude.{if◌then◌else◌}
 use Prim.Native.Nat.{ℕ, zero, suc, ◌≤◌}
 use mathlib.Core.Path.{◌≡◌, refl, sym, ap, ◌∙◌}
 use mathlib.Core.Bool.{Bool, true, false, ◌||◌}
@@ -9,7 +10,7 @@ use lib.Dec.{eqb}
 use native.Mathlib.Decide.{dec_le}
 use borrow.Author.Tests.{eqb-true, eqb-false, le-leb, lt-leb}
 use lib.ListN.{length, drop}
-use Rattle.paper.specs.Bytes.{Bytes, if◌then◌else◌, within}
+use Rattle.paper.specs.Bytes.{Bytes, within}
 use Rattle.lent.specs.Scan.{upto}
 use Rattle.paper.specs.Sizes.{attribute_mark, value_mark, subvalue_mark}
 use Rattle.paper.specs.Records.{opened, split, Part, pieces, nth, path, part_at, whole, place, reads, text_or_empty}

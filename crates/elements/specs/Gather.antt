@@ -1,6 +1,6 @@
 -- The answer as it grows in the lent output, and what the walk over the elements comes to.
-use Rattle.std.specs.Prelude.{ℕ, ◌+◌, ◌≤◌, ◌≡◌, length, take, leb}
-use Rattle.paper.specs.Bytes.{Bytes, if◌then◌else◌}
+use Rattle.std.specs.Prelude.{ℕ, ◌+◌, ◌≤◌, ◌≡◌, length, take, leb, if◌then◌else◌}
+use Rattle.paper.specs.Bytes.{Bytes}
 use Rattle.paper.specs.Refusals.{Res, given, refused}
 use Rattle.paper.specs.Converting.{Outcome}
 use Rattle.lent.specs.Over.{over}

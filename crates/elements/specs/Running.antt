@@ -1,6 +1,6 @@
 -- What the walk's functions answer, as the enums of the code, through the paper's outcomes.
-use Rattle.std.specs.Prelude.{ℕ, ◌+◌, ◌≤◌, ◌≡◌, List, [], eqb, length}
-use Rattle.paper.specs.Bytes.{Bytes, if◌then◌else◌}
+use Rattle.std.specs.Prelude.{ℕ, ◌+◌, ◌≤◌, ◌≡◌, List, [], eqb, length, if◌then◌else◌}
+use Rattle.paper.specs.Bytes.{Bytes}
 use Rattle.paper.specs.Sizes.{entry_most, value_mark}
 use Rattle.paper.specs.Refusals.{Res, given, refused, answer_of}
 use Rattle.paper.specs.Steps.{element_run}

@@ -1,7 +1,7 @@
 -- The elements of an address as one walk from left to right sees them: what `walk` promises is said of it, and proofs/Walking.antt ties it to the
 -- paper's `elements`.
-use Rattle.std.specs.Prelude.{ℕ, suc, List, [], ◌∷◌, eqb}
-use Rattle.paper.specs.Bytes.{Bytes, if◌then◌else◌}
+use Rattle.std.specs.Prelude.{ℕ, suc, List, [], ◌∷◌, eqb, if◌then◌else◌}
+use Rattle.paper.specs.Bytes.{Bytes}
 use Rattle.paper.specs.Sizes.{value_mark, subvalue_mark}
 use Rattle.paper.specs.Converting.{Element}
 

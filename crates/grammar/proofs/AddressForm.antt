@@ -1,11 +1,12 @@
 -- A typed address: read by place it is what the paper reads, and the whole text must be read.
+use Rattle.std.specs.Prelude.{if◌then◌else◌}
 use Prim.Native.Nat.{ℕ}
 use mathlib.Core.Path.{◌≡◌, refl}
 use mathlib.Core.Option.{Option, none, some}
 use lib.ListN.{length}
 use lib.Dec.{eqb}
 use native.Mathlib.Omega.{arith}
-use Rattle.paper.specs.Bytes.{Bytes, if◌then◌else◌}
+use Rattle.paper.specs.Bytes.{Bytes}
 use Rattle.paper.specs.Grammar as paper
 use Rattle.paper.specs.Program.{Address, address_form}
 use Rattle.readers.specs.Places.{Placed, follow, this, numeral}

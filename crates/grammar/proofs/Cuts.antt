@@ -1,4 +1,5 @@
 -- Where a code of a string ends, and what is left behind it.
+use Rattle.std.specs.Prelude.{if◌then◌else◌}
 use Prim.Native.Nat.{ℕ, suc, ◌<◌, ◌≤◌, ◌+◌, ◌-◌}
 use mathlib.Core.Path.{◌≡◌, refl, sym, ap, ◌∙◌}
 use mathlib.Core.Bool.{Bool, true, false}
@@ -7,7 +8,7 @@ use lib.ListN.{length, take, drop, length-drop}
 use lib.Seq.{take_all, drop-drop}
 use lib.Dec.{eqb}
 use native.Mathlib.Omega.{arith}
-use Rattle.paper.specs.Bytes.{Bytes, if◌then◌else◌}
+use Rattle.paper.specs.Bytes.{Bytes}
 use Rattle.paper.specs.Records.{opened, split}
 use Rattle.lent.specs.Scan.{upto}
 use Rattle.grammar.specs.Heads.{code_end}

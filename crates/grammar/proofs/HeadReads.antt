@@ -1,4 +1,5 @@
 -- What the head of a code says is what the paper reads.
+use Rattle.std.specs.Prelude.{if◌then◌else◌}
 use Prim.Native.Nat.{ℕ, ◌≤◌}
 use mathlib.Core.Path.{◌≡◌, refl, ap, ◌∙◌}
 use mathlib.Core.Bool.{Bool, true, false}
@@ -8,7 +9,7 @@ use lib.ListN.{length}
 use lib.Dec.{eqb}
 use native.Mathlib.Omega.{arith}
 use borrow.Author.Tests.{eqb-true}
-use Rattle.paper.specs.Bytes.{Bytes, if◌then◌else◌, any}
+use Rattle.paper.specs.Bytes.{Bytes, any}
 use Rattle.paper.specs.Sizes.{is_mark}
 use Rattle.paper.specs.Grammar as paper
 use Rattle.paper.specs.Codes as codes

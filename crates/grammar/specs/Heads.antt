@@ -1,7 +1,7 @@
 -- What one whole code begins with, the elms behind an `F;`, and where a code of a string ends.
-use Rattle.std.specs.Prelude.{ℕ, suc, List, [], ◌∷◌, length, drop, eqb}
+use Rattle.std.specs.Prelude.{ℕ, suc, List, [], ◌∷◌, length, drop, eqb, if◌then◌else◌}
 use Rattle.std.proofs.Math.Option.{Option, none, some}
-use Rattle.paper.specs.Bytes.{Bytes, if◌then◌else◌, ch}
+use Rattle.paper.specs.Bytes.{Bytes, ch}
 use Rattle.paper.specs.Sizes.{value_mark}
 use Rattle.paper.specs.Refusals.{not_in_grammar}
 use Rattle.paper.specs.Codes as paper

@@ -1,4 +1,5 @@
 -- The scan of a code string for marks: where a code ends, and that up to the first mark it has none.
+use Rattle.std.specs.Prelude.{if◌then◌else◌}
 use Prim.Native.Nat.{ℕ, suc, ◌<◌, ◌≤◌, ◌+◌, ◌-◌}
 use mathlib.Core.Path.{◌≡◌, refl, sym, ap, ◌∙◌}
 use mathlib.Core.Bool.{Bool, true, false, true≢false}
@@ -8,7 +9,7 @@ use lib.ListN.{length, get_or, take}
 use lib.Dec.{eqb}
 use native.Mathlib.Omega.{arith}
 use borrow.Author.Tests.{eq-eqb, ne_eqb}
-use Rattle.paper.specs.Bytes.{Bytes, any, within, if◌then◌else◌}
+use Rattle.paper.specs.Bytes.{Bytes, any, within}
 use Rattle.paper.specs.Sizes.{is_mark}
 use Rattle.lent.specs.Scan.{upto}
 use Rattle.lent.proofs.Scans.{length_upto}

@@ -1,4 +1,5 @@
 -- How many steps and tests a string of so many bytes holds: each takes two bytes, with what parts the steps.
+use Rattle.std.specs.Prelude.{if◌then◌else◌}
 use Prim.Native.Nat.{ℕ, zero, suc, ◌<◌, ◌≤◌, ◌+◌, ◌*◌}
 use mathlib.Core.Path.{◌≡◌, refl, sym, ap, ◌∙◌}
 use mathlib.Core.Bool.{Bool, true, false}
@@ -7,7 +8,7 @@ use mathlib.Core.Option.{Option, none, some}
 use lib.ListN.{length, drop, length-drop}
 use lib.Dec.{eqb}
 use native.Mathlib.Omega.{arith}
-use Rattle.paper.specs.Bytes.{Bytes, if◌then◌else◌, any}
+use Rattle.paper.specs.Bytes.{Bytes, any}
 use Rattle.paper.specs.Sizes.{is_mark}
 use Rattle.paper.specs.Grammar as paper
 use Rattle.paper.specs.Refusals.{Res, given, refused, ◌>>=◌, ◌>>◌}

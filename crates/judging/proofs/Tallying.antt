@@ -1,4 +1,5 @@
 -- Elms tallied one by one come to what the paper says of all of them: the entries held, the fault, the steps.
+use Rattle.std.specs.Prelude.{if◌then◌else◌}
 use Prim.Native.Nat.{ℕ, ◌≤◌, ◌+◌}
 use mathlib.Core.Path.{◌≡◌, refl, ap, ◌∙◌}
 use mathlib.Core.Bool.{Bool, true, false, ◌&&◌}
@@ -7,7 +8,6 @@ use lib.Dec.{leb, eqb}
 use native.Mathlib.Nat.{add-zero, zero-add, add_assoc}
 use native.Mathlib.Omega.{arith}
 use borrow.Author.Tests.{leb-true}
-use Rattle.paper.specs.Bytes.{if◌then◌else◌}
 use Rattle.paper.specs.Refusals.{Res, given, refused, ◌>>=◌, ◌>>◌, refuse◌unless◌}
 use Rattle.paper.specs.Codes as paper
 use Rattle.paper.specs.Checking as checking

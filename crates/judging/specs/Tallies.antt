@@ -1,6 +1,5 @@
 -- The elms of an F code as the code tallies them, over the paper's shapes and counts (crates/paper/specs/Checking.antt).
-use Rattle.std.specs.Prelude.{ℕ, ◌+◌, ◌-◌, Bool, true, false, ◌&&◌, List, [], ◌∷◌, leb, eqb}
-use Rattle.paper.specs.Bytes.{if◌then◌else◌}
+use Rattle.std.specs.Prelude.{ℕ, ◌+◌, ◌-◌, Bool, true, false, ◌&&◌, List, [], ◌∷◌, leb, eqb, if◌then◌else◌}
 use Rattle.paper.specs.Sizes.{stack_most}
 use Rattle.paper.specs.Refusals.{stack_fault, left_over_entries}
 use Rattle.paper.specs.Codes as paper

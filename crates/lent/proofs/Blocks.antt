@@ -1,4 +1,5 @@
 -- What passing a block does, over plain lists: a front part in which a scan does not end.
+use Rattle.std.specs.Prelude.{if◌then◌else◌}
 use mathlib.Core.Path.{◌≡◌, refl, sym, ap, ◌∙◌}
 use mathlib.Core.Bool.{Bool, true, false, true≢false, ◌||◌}
 use mathlib.Core.List.{[], ◌∷◌, ◌++◌}
@@ -6,7 +7,7 @@ use Prim.Native.Nat.{ℕ, ◌+◌, ◌-◌, ◌≤◌, ◌<◌}
 use native.Mathlib.Omega.{arith}
 use lib.ListN.{length, take, drop, take-append-drop, length-drop, length-append}
 use lib.Seq.{drop-drop, take-add, length-take-le}
-use Rattle.paper.specs.Bytes.{Bytes, any, within, if◌then◌else◌}
+use Rattle.paper.specs.Bytes.{Bytes, any, within}
 use Rattle.lent.specs.Scan.{range, upto, first_place}
 
 -- ---- a part of the bytes, in two

@@ -1,4 +1,5 @@
 -- The pieces of a text between marks m, by place: a piece ends where a scan for m stops, and the next one begins behind it.
+use Rattle.std.specs.Prelude.{if◌then◌else◌}
 use Prim.Native.Nat.{ℕ, zero, suc, ◌+◌, ◌-◌, ◌≤◌}
 use mathlib.Core.Path.{◌≡◌, refl, sym, ap, ◌∙◌}
 use mathlib.Core.Bool.{Bool, true, false}
@@ -7,7 +8,7 @@ use lib.ListN.{length, take, drop, length-drop, drop_of_length-le}
 use lib.Dec.{eqb}
 use lib.Seq.{drop-drop}
 use native.Mathlib.Omega.{arith}
-use Rattle.paper.specs.Bytes.{Bytes, if◌then◌else◌, within}
+use Rattle.paper.specs.Bytes.{Bytes, within}
 use Rattle.paper.specs.Records.{opened, split, nth, first_of, or_empty}
 use Rattle.paper.proofs.Ranges.{within_one}
 use Rattle.lent.specs.Scan.{range, upto, piece}

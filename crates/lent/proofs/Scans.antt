@@ -1,4 +1,5 @@
 -- What one turn of a scan does, over plain lists: what the rest gives from the next place is what it gives from this one.
+use Rattle.std.specs.Prelude.{if◌then◌else◌}
 use mathlib.Core.Path.{◌≡◌, refl, sym, ap, ◌∙◌}
 use mathlib.Core.Bool.{Bool, true, false, ◌||◌, or_assoc, or-false}
 use mathlib.Core.List.{[], ◌∷◌}
@@ -8,7 +9,7 @@ use native.Mathlib.Numerals.{add-one}
 use native.Mathlib.Omega.{arith}
 use lib.ListN.{length, take, drop, get_or, length-drop, drop_of_length-le}
 use lib.Seq.{drop-cons, take_all}
-use Rattle.paper.specs.Bytes.{Bytes, any, within, if◌then◌else◌}
+use Rattle.paper.specs.Bytes.{Bytes, any, within}
 use Rattle.lent.specs.Scan.{range, upto}
 
 -- the byte at a place, and what is behind it

@@ -1,6 +1,6 @@
 -- A scan of some of the bytes for one within two bounds, and the pieces that marks part.
-use Rattle.std.specs.Prelude.{ℕ, ◌+◌, ◌-◌, [], ◌∷◌, length, take, drop}
-use Rattle.paper.specs.Bytes.{Bytes, within, if◌then◌else◌}
+use Rattle.std.specs.Prelude.{ℕ, ◌+◌, ◌-◌, [], ◌∷◌, length, take, drop, if◌then◌else◌}
+use Rattle.paper.specs.Bytes.{Bytes, within}
 use Rattle.paper.specs.Records.{split, nth, or_empty}
 
 -- the bytes from place `from` up to place `to`

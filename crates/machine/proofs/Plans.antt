@@ -1,4 +1,5 @@
 -- What a plan says of an accepted string: where it is a single code, every element's run is the one step of that code. Assumes nothing.
+use Rattle.std.specs.Prelude.{if◌then◌else◌}
 use mathlib.Core.Path.{◌≡◌, refl, ap, ◌∙◌}
 use mathlib.Core.Bool.{Bool, true, false}
 use mathlib.Core.List.{[], ◌∷◌}
@@ -9,7 +10,7 @@ use lib.ListN.{length}
 use lib.Seq.{take_all}
 use lib.Dec.{eqb}
 use borrow.Author.Tests.{eq-eqb, ne_eqb, eqb-true}
-use Rattle.paper.specs.Bytes.{Bytes, if◌then◌else◌}
+use Rattle.paper.specs.Bytes.{Bytes}
 use Rattle.paper.specs.Sizes.{code_most, entry_most}
 use Rattle.paper.specs.Refusals.{Res, given, refused}
 use Rattle.paper.specs.Records.{split}

@@ -1,7 +1,7 @@
 -- How the elements go through a string: by the one code that it is, other than F, or by its codes in their turn.
 use Rattle.std.proofs.Math.Option.{Option, none, some}
-use Rattle.std.specs.Prelude.{length, eqb}
-use Rattle.paper.specs.Bytes.{Bytes, if◌then◌else◌}
+use Rattle.std.specs.Prelude.{length, eqb, if◌then◌else◌}
+use Rattle.paper.specs.Bytes.{Bytes}
 use Rattle.grammar.specs.declared.Head.{Head}
 use Rattle.grammar.specs.Heads.{head, code_end}
 use Rattle.machine.specs.declared.Plan.{Plan}

@@ -1,4 +1,5 @@
 -- A text's pieces in the shapes of the code, and their lengths. Assumes nothing.
+use Rattle.std.specs.Prelude.{if◌then◌else◌}
 use mathlib.Core.Path.{◌≡◌, refl, sym, ◌∙◌}
 use mathlib.Core.Bool.{Bool, true, false, not, ◌&&◌, ◌||◌}
 use mathlib.Core.List.{[], ◌∷◌, ◌++◌, append_assoc}
@@ -7,7 +8,7 @@ use native.Mathlib.Nat.{le_refl}
 use native.Mathlib.Omega.{arith}
 use lib.Dec.{eqb, ltb}
 use lib.ListN.{length, take, drop, length-append}
-use Rattle.paper.specs.Bytes.{Bytes, if◌then◌else◌, bytes}
+use Rattle.paper.specs.Bytes.{Bytes, bytes}
 use Rattle.paper.specs.Numbers.{Number, digits, decimal}
 use Rattle.paper.specs.Codes.{Credit, Mask}
 use Rattle.paper.specs.Masks.{integer_text, point_text, digits_text, before_digits, after_digits, masked_text}

@@ -1,6 +1,6 @@
 -- Pieces of a text that may be left out or blank: proof furniture.
-use Rattle.std.specs.Prelude.{ℕ, Bool, [], ◌∷◌}
-use Rattle.paper.specs.Bytes.{Bytes, if◌then◌else◌, ch}
+use Rattle.std.specs.Prelude.{ℕ, Bool, [], ◌∷◌, if◌then◌else◌}
+use Rattle.paper.specs.Bytes.{Bytes, ch}
 
 -- one byte or none; one byte or a blank
 unfoldable pub when : Bool → ℕ → Bytes

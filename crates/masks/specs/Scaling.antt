@@ -1,6 +1,5 @@
 -- The paper's number and value for each case of a scaled size.
-use Rattle.std.specs.Prelude.{ℕ, leb}
-use Rattle.paper.specs.Bytes.{if◌then◌else◌}
+use Rattle.std.specs.Prelude.{ℕ, leb, if◌then◌else◌}
 use Rattle.paper.specs.Sizes.{number_most}
 use Rattle.paper.specs.Refusals.{out_of_range}
 use Rattle.masks.specs.declared.scaling.Scaling.{Scaling}

@@ -1,4 +1,5 @@
 -- Numeric form by scans, two over the blanks and one over the digits, which leaves a size over the limit as it is, against the definition. Assumes nothing.
+use Rattle.std.specs.Prelude.{if◌then◌else◌}
 use mathlib.Core.Path.{◌≡◌, refl, sym, ◌∙◌}
 use mathlib.Core.Bool.{Bool, true, false, not, ◌&&◌}
 use mathlib.Core.List.{[], ◌∷◌}
@@ -12,7 +13,7 @@ use lib.Dec.{eqb}
 use lib.ListN.{length, get_or, take, drop, drop_of_length-le}
 use lib.Seq.{drop-cons}
 use borrow.Author.Tests.{le-leb, lt-leb, ne_eqb, eqb-true, eqb-false, not-true}
-use Rattle.paper.specs.Bytes.{Bytes, if◌then◌else◌, is_digit, digit_value}
+use Rattle.paper.specs.Bytes.{Bytes, is_digit, digit_value}
 use Rattle.paper.specs.Sizes.{number_most}
 use Rattle.paper.specs.Refusals.{given, refused}
 use Rattle.paper.specs.Numbers.{Number as Whole, signed, value, digits_alone, sign_and_digits, after_blanks, before_blanks, within_blanks, ranged}

@@ -1,7 +1,6 @@
 -- What the loops of this crate compute, in the shapes of the loops: proof furniture, which the laws tie to the definitions.
-use Rattle.std.specs.Prelude.{Bool, ℕ, ◌+◌, ◌*◌, leb}
+use Rattle.std.specs.Prelude.{Bool, ℕ, ◌+◌, ◌*◌, leb, if◌then◌else◌}
 use Rattle.std.proofs.Math.Option.{Option}
-use Rattle.paper.specs.Bytes.{if◌then◌else◌}
 use Rattle.paper.specs.Sizes.{number_most}
 use Rattle.paper.specs.Refusals.{Res}
 use Rattle.paper.specs.Numbers.{Number as Whole, as_signed}

@@ -1,6 +1,5 @@
 // What F's elms give that take entries and reckon: the operators on two of them, and `[]` on three.
-ghost use Rattle.std.specs.Prelude.{◌≡◌, [], ◌∷◌, ◌≤◌, min, length, take, drop};
-ghost use Rattle.paper.specs.Bytes.{if◌then◌else◌};
+ghost use Rattle.std.specs.Prelude.{◌≡◌, [], ◌∷◌, ◌≤◌, min, length, take, drop, if◌then◌else◌};
 ghost use Rattle.paper.specs.Sizes.{number_digits, entry_most};
 ghost use Rattle.paper.specs.Refusals.{given};
 ghost use Rattle.paper.specs.Answers.{given_of, written};

@@ -1,5 +1,6 @@
 -- A string of one code other than F: an answer has, between the marks kept, what the code gives on each element; and what refuses the one element of
 -- an address is the code itself, a text over the limit, the budget or the output. Assumes nothing.
+use Rattle.std.specs.Prelude.{if◌then◌else◌}
 use Prim.Native.Nat.{ℕ, ◌+◌, ◌≤◌, ◌<◌}
 use mathlib.Core.Path.{◌≡◌, refl, sym, ap, ◌∙◌}
 use mathlib.Core.Bool.{Bool, true, false}
@@ -9,7 +10,7 @@ use native.Mathlib.Omega.{arith}
 use lib.Dec.{leb}
 use lib.ListN.{length}
 use borrow.Author.Tests.{le-leb, leb-true}
-use Rattle.paper.specs.Bytes.{Bytes, if◌then◌else◌}
+use Rattle.paper.specs.Bytes.{Bytes}
 use Rattle.paper.specs.Sizes.{entry_most}
 use Rattle.paper.specs.Refusals.{Res, given, refused, ◌>>=◌, refuse◌unless◌, refusal_of, answer_of}
 use Rattle.paper.specs.Refusals.{over_long_entry, over_budget, short_output}

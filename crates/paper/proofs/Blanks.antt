@@ -1,5 +1,6 @@
 -- Document 02, L3: "Numeric form should ignore blanks (byte 32) before and after": any blanks around a text leave its form as it is, and a text with none at
 -- either end has the form that document 01 gave it. Assumes nothing.
+use Rattle.std.specs.Prelude.{if◌then◌else◌}
 use Prim.Native.Nat.{ℕ, zero, suc, ◌-◌, ◌≤◌, ◌<◌}
 use mathlib.Core.Path.{◌≡◌, refl, sym, ap, ◌∙◌}
 use mathlib.Core.Bool.{Bool, true, false}
@@ -11,7 +12,7 @@ use lib.Dec.{eqb}
 use lib.ListN.{length, length-append, get_or, take, replicate}
 use lib.Seq.{take-suc, take-length}
 use borrow.Author.Tests.{ne_eqb}
-use Rattle.paper.specs.Bytes.{Bytes, if◌then◌else◌, ch}
+use Rattle.paper.specs.Bytes.{Bytes, ch}
 use Rattle.paper.specs.Refusals.{Res}
 use Rattle.paper.specs.Numbers.{Number, sign_and_digits, after_blanks, before_blanks, within_blanks, numeric, ranged, or_zero, number, compared}
 use Rattle.paper.specs.Masks.{on_number, number_gives}

@@ -1,5 +1,6 @@
 -- Demand 3, the budget: at or above the defined count it changes nothing; below it the refusal is 15, and the count reported is that of the
 -- steps completed, the most that the budget holds. First of any run, then of converting. Assumes nothing.
+use Rattle.std.specs.Prelude.{if◌then◌else◌}
 use Prim.Native.Nat.{ℕ, suc, ◌+◌, ◌≤◌, ◌<◌}
 use mathlib.Core.Path.{◌≡◌, refl, sym, ap, ◌∙◌}
 use mathlib.Core.Bool.{Bool, true, false}
@@ -10,7 +11,7 @@ use native.Mathlib.Omega.{arith}
 use lib.ListN.{take}
 use lib.Dec.{leb}
 use borrow.Author.Tests.{le-leb, leb-true, leb-false}
-use Rattle.paper.specs.Bytes.{Bytes, if◌then◌else◌}
+use Rattle.paper.specs.Bytes.{Bytes}
 use Rattle.paper.proofs.Truths.{chosen}
 use Rattle.paper.specs.Refusals.{Res, given, refused, over_budget}
 use Rattle.paper.specs.Codes.{Code}

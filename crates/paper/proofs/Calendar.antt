@@ -1,5 +1,6 @@
 -- The calendar of the definitions: the year of a day, the length of a year, and that the day and the date are inverse to each other.
 -- Assumes nothing.
+use Rattle.std.specs.Prelude.{if◌then◌else◌}
 use Prim.Native.Nat.{ℕ, zero, suc, pred, ◌+◌, ◌-◌, ◌*◌, ◌/◌, ◌%◌, ◌≤◌, ◌<◌}
 use mathlib.Core.Path.{◌≡◌, refl, ◌∙◌}
 use mathlib.Core.Bool.{Bool, true, false, not, ◌&&◌, ◌||◌}
@@ -10,7 +11,7 @@ use native.Mathlib.Nat.{le_refl, not-suc-le-zero, add-zero, zero-add, add-suc}
 use native.Mathlib.Numerals.{add-one}
 use lib.Dec.{leb, ltb, eqb}
 use borrow.Author.Tests.{leb-true, ltb-true, leb-false, eqb-true, eqb-false, lt-ltb, le-ltb, le-leb}
-use Rattle.paper.specs.Bytes.{if◌then◌else◌, within}
+use Rattle.paper.specs.Bytes.{within}
 use Rattle.paper.specs.Dates.{Date, leap, month_lengths, days_before_year, days_in, days_to, year_of, month_day, date_of}
 use Rattle.paper.specs.TypedDates.{in_calendar}
 use Rattle.paper.proofs.Truths.{both, chosen}

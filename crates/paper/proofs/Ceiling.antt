@@ -1,6 +1,7 @@
 -- Demand 3, the ceiling: the defined count is at most the number of elements times what the string's steps can cost, for any limit `most` on
 -- an entry, and so for converting at its own; a run is bounded by data, a case for each of its forms. That ceiling is document 01's with a P code's
 -- own place in it, m x (A x (1,025 + R) + B x 4,097 + (P + T) x 1,025). Assumes nothing.
+use Rattle.std.specs.Prelude.{if◌then◌else◌}
 use Prim.Native.Nat.{ℕ, ◌+◌, ◌*◌, ◌≤◌}
 use mathlib.Core.Path.{◌≡◌, refl, ap}
 use mathlib.Core.Bool.{Bool, true, false}
@@ -10,7 +11,7 @@ use native.Mathlib.Nat.{le_trans, suc-mul, zero-mul, one-mul, add-mul}
 use lib.ListN.{length}
 use lib.Dec.{leb, lit≤}
 use borrow.Author.Tests.{leb-true}
-use Rattle.paper.specs.Bytes.{Bytes, if◌then◌else◌}
+use Rattle.paper.specs.Bytes.{Bytes}
 use Rattle.paper.specs.Sizes.{entry_most, scratch_least}
 use Rattle.paper.specs.Refusals.{Res, given, refuse◌unless◌, over_long_entry, short_scratch}
 use Rattle.paper.specs.Codes.{Pattern, Conversion, Elm, Code, Kind}

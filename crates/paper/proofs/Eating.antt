@@ -1,5 +1,6 @@
 -- Document 01, "The code grammar": what a reader eats it eats whatever follows. Readers look one byte ahead and commit, so what may follow is
 -- nothing, a byte that closes, or the byte that stood there. A law for each way of going on, and with them the grammar. Assumes nothing.
+use Rattle.std.specs.Prelude.{if◌then◌else◌}
 use Prim.Native.Nat.{ℕ, zero, suc, ◌≤◌, ◌<◌}
 use native.Mathlib.Omega.{arith}
 use mathlib.Core.Path.{◌≡◌, refl, sym, ap, ◌∙◌}
@@ -12,7 +13,7 @@ use mathlib.Core.Option.{Option, none, some, none-ne-some}
 use lib.Dec.{eqb}
 use lib.ListN.{length, length-append}
 use borrow.Author.Tests.{eq-eqb}
-use Rattle.paper.specs.Bytes.{Bytes, if◌then◌else◌, ch, is_digit, is_letter, is_upper, is_lower}
+use Rattle.paper.specs.Bytes.{Bytes, ch, is_digit, is_letter, is_upper, is_lower}
 use Rattle.paper.specs.Records.{join}
 use Rattle.paper.specs.Codes.{Elm}
 use Rattle.paper.specs.Grammar.{Reader, follow, ◌>>=◌, ◌>>◌, gives, fails, only_if, ahead, this, flag, choose, more_digits, numeral, num, onto, quoted}

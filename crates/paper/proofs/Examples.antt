@@ -1,5 +1,6 @@
 -- Document 01, "Examples on both sides": the starred examples, as one table under one theorem, by computation.
 -- Below it the easy slips, and what a wrong reading of a rule would get wrong, in the same way. Assumes nothing.
+use Rattle.std.specs.Prelude.{if◌then◌else◌}
 use Prim.Native.Nat.{ℕ}
 use Prim.Native.String.{String}
 use mathlib.Core.Path.{◌≡◌, refl}
@@ -7,7 +8,7 @@ use mathlib.Core.List.{List, [], ◌∷◌, ◌++◌, map}
 use lib.ListN.{length}
 use lib.Dec.{eqb}
 use Rattle.paper.specs.Refusals.{refusal_of, answer_of}
-use Rattle.paper.specs.Bytes.{Bytes, if◌then◌else◌, ch, bytes, is_digit, is_upper, is_lower, is_letter, digit_value, any, only, same_bytes}
+use Rattle.paper.specs.Bytes.{Bytes, ch, bytes, is_digit, is_upper, is_lower, is_letter, digit_value, any, only, same_bytes}
 use Rattle.paper.specs.Sizes.{attribute_mark, value_mark, subvalue_mark, record_most, is_mark, is_outer_mark, is_inner_mark, entry_most, scratch_least}
 use Rattle.paper.specs.Records.{split, join, placed, pieces, nth, path, part_at, whole, id_of, place, lawful_id, lawful_record, lawful_address, reads}
 use Rattle.paper.specs.Numbers.{signed, natural, value, sign_and_digits, after_blanks, before_blanks, within_blanks, numeric, ranged, number, digits, trimmed, decimal, number_text, negated, plus, times, quotient, remainder, below, bytes_below, compared, holds, binary_gives, substring_gives}

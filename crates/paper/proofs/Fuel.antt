@@ -1,5 +1,6 @@
 -- Readers with fuel: what is read with any fuel is read with fuel of the bytes' number, where each thing eats a byte, and so many are this thing and
 -- those behind it. One law for what is parted by a byte, elms and patterns, and for what is closed by one, tests. Assumes nothing.
+use Rattle.std.specs.Prelude.{if◌then◌else◌}
 use Prim.Native.Nat.{ℕ, zero, suc, ◌≤◌, ◌<◌}
 use native.Mathlib.Omega.{arith}
 use mathlib.Core.Path.{◌≡◌, refl, sym, ◌∙◌}
@@ -8,7 +9,7 @@ use mathlib.Core.List.{List, [], ◌∷◌}
 use mathlib.Core.Option.{Option, none, some}
 use lib.Dec.{eqb}
 use lib.ListN.{length}
-use Rattle.paper.specs.Bytes.{Bytes, if◌then◌else◌}
+use Rattle.paper.specs.Bytes.{Bytes}
 use Rattle.paper.specs.Grammar.{Reader, follow, gives, ahead}
 
 -- what is read is shorter by a byte at least

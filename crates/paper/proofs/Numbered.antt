@@ -1,6 +1,7 @@
 -- Document 01, "Numbers that refusals carry", with document 02's: every refusal that converting gives carries a number of that table, and after an
 -- accepted check it is never 7. A law for each way of going on, then one for each definition that may refuse and matches on something; the rest is
 -- unfolded. Assumes nothing.
+use Rattle.std.specs.Prelude.{if◌then◌else◌}
 use Prim.Native.Nat.{ℕ, suc, ◌+◌, ◌-◌, ◌≤◌, ◌<◌}
 use mathlib.Core.Path.{◌≡◌, refl, ap, subst}
 use mathlib.Core.Bool.{Bool, true, false, not, ◌&&◌, ◌||◌}
@@ -11,7 +12,7 @@ use lib.Dec.{T, leb, eqb}
 use lib.ListN.{length}
 use native.Mathlib.Omega.{arith}
 use borrow.Author.Tests.{le-leb, ne_eqb, eqb-true, eqb-false, not-true}
-use Rattle.paper.specs.Bytes.{Bytes, if◌then◌else◌, within}
+use Rattle.paper.specs.Bytes.{Bytes, within}
 use Rattle.paper.specs.Sizes.{code_most, entry_most, stack_most, scratch_least}
 use Rattle.paper.specs.Refusals.{Res, given, refused, ◌>>=◌, ◌>>◌, refuse◌unless◌, refuse◌when◌, refusal_of}
 use Rattle.paper.specs.Refusals.{stack_fault, short_scratch, short_output, mark_in_element, left_over_entries, last_refusal}

@@ -1,4 +1,5 @@
 -- Decimal text of the definitions: its digits, its length, and that reading it back gives the number. Assumes nothing.
+use Rattle.std.specs.Prelude.{if◌then◌else◌}
 use mathlib.Core.Path.{◌≡◌, refl, sym, ap, ◌∙◌}
 use mathlib.Core.Bool.{Bool, true, false}
 use mathlib.Core.List.{[], ◌∷◌, ◌++◌}
@@ -11,7 +12,7 @@ use native.Mathlib.Omega.{arith}
 use lib.Dec.{eqb}
 use lib.ListN.{length, length-append, get_or}
 use borrow.Author.Tests.{eqb-true, le-leb, ne_eqb}
-use Rattle.paper.specs.Bytes.{Bytes, if◌then◌else◌, is_digit, digit_value}
+use Rattle.paper.specs.Bytes.{Bytes, is_digit, digit_value}
 use Rattle.paper.specs.Sizes.{number_digits, number_most}
 use Rattle.paper.specs.Refusals.{given}
 use Rattle.paper.specs.Numbers.{Number, signed, natural, value, sign_and_digits, numeric, ranged, number, digits, trimmed, decimal, number_text}

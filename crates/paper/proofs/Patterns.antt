@@ -1,5 +1,6 @@
 -- Document 02, L1: passing a pattern is about cuts, "if it can be cut into consecutive parts that meet the tests in turn"; the tests can be
 -- gone through one after the other, with all cuts at once; and how each way of a test moves on along an element. Assumes nothing.
+use Rattle.std.specs.Prelude.{if◌then◌else◌}
 use Prim.Native.Nat.{ℕ, zero, suc, ◌+◌, ◌-◌, ◌≤◌, ◌<◌}
 use native.Mathlib.Numerals.{add-one}
 use native.Mathlib.Omega.{arith}
@@ -11,7 +12,7 @@ use lib.ListN.{length, take, drop, get_or, length-append, length-drop}
 use lib.Seq.{take-suc, take_at, drop_at, take-add, length-take-le}
 use lib.Dec.{leb, eqb, leb-zero, leb-suc-zero, leb-suc-suc}
 use borrow.Author.Tests.{eqb-true, eq-eqb}
-use Rattle.paper.specs.Bytes.{Bytes, if◌then◌else◌, same_bytes}
+use Rattle.paper.specs.Bytes.{Bytes, same_bytes}
 use Rattle.paper.specs.Codes.{Class, Test, Pattern}
 use Rattle.paper.specs.Patterns.{of_class, every, is_so_many, meets, some_cut, passes, some_passes, patterns_give}
 use Rattle.paper.proofs.Truths.{both, alike, fails}

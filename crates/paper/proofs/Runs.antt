@@ -1,10 +1,11 @@
 -- Runs that go on from one another: the order of going on does not matter, and a budget is read part by part. Assumes nothing.
+use Rattle.std.specs.Prelude.{if◌then◌else◌}
 use Prim.Native.Nat.{ℕ, ◌+◌}
 use mathlib.Core.Path.{◌≡◌, refl, ap}
 use mathlib.Core.Bool.{Bool, true, false}
 use lib.Dec.{leb}
 use mathlib.Core.List.{List, [], ◌∷◌, ◌++◌}
-use Rattle.paper.specs.Bytes.{Bytes, if◌then◌else◌}
+use Rattle.paper.specs.Bytes.{Bytes}
 use Rattle.paper.specs.Codes.{Elm}
 use Rattle.paper.specs.Refusals.{Res, given, refused, over_budget}
 use Rattle.paper.specs.Steps.{Run, done, stop, step, onward, stepped, Setting, elm_step, elms_run}

@@ -1,6 +1,7 @@
 -- Demand 3, the stack: in a string that the check accepts, on every record and at every position, each elm finds at least the entries that
 -- it takes and leaves at most 16, and each F code ends with an entry to answer with; by document 02, L5, with no other beside it. For any
 -- limit on an entry. Assumes nothing.
+use Rattle.std.specs.Prelude.{if◌then◌else◌}
 use Prim.Native.Nat.{ℕ, suc, ◌+◌, ◌-◌, ◌≤◌}
 use mathlib.Core.Path.{◌≡◌, refl, sym, ap, ◌∙◌}
 use mathlib.Core.Bool.{Bool, true, false}
@@ -9,7 +10,7 @@ use native.Mathlib.Omega.{arith}
 use lib.ListN.{length}
 use lib.Dec.{leb, eqb, lit≤}
 use borrow.Author.Tests.{leb-true, eqb-true}
-use Rattle.paper.specs.Bytes.{Bytes, if◌then◌else◌}
+use Rattle.paper.specs.Bytes.{Bytes}
 use Rattle.paper.specs.Sizes.{stack_most, code_most}
 use Rattle.paper.specs.Refusals.{Res, given, refused, ◌>>=◌, ◌>>◌, refuse◌unless◌, stack_fault, over_long_code, left_over_entries}
 use Rattle.paper.specs.Codes.{Operand, Elm, Code, Conversion}

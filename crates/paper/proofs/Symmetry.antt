@@ -1,5 +1,6 @@
 -- Document 02, L2: "Halves are to round away from zero", and "a number and its negative show the same digits before fill whenever both are converted",
 -- for every n and m at once: of rounding, of the scaled value, of what ML and MR show, and of converting. Assumes nothing.
+use Rattle.std.specs.Prelude.{if◌then◌else◌}
 use Prim.Native.Nat.{ℕ, zero, suc, ◌+◌, ◌-◌, ◌*◌, ◌/◌, ◌%◌, ◌^◌, ◌≤◌, ◌<◌}
 use mathlib.Core.Path.{◌≡◌, refl, sym, ap, ◌∙◌}
 use mathlib.Core.Bool.{Bool, true, false, not, ◌&&◌, ◌||◌}
@@ -10,7 +11,7 @@ use native.Mathlib.Omega.{arith}
 use lib.Dec.{leb, ltb, eqb}
 use lib.ListN.{length, replicate}
 use borrow.Author.Tests.{leb-true, leb-false, ltb-false}
-use Rattle.paper.specs.Bytes.{Bytes, if◌then◌else◌, ch, bytes, is_digit, only}
+use Rattle.paper.specs.Bytes.{Bytes, ch, bytes, is_digit, only}
 use Rattle.paper.specs.Sizes.{number_most}
 use Rattle.paper.specs.Refusals.{Res, given, refused, ◌>>=◌, ◌>>◌, refuse◌unless◌, out_of_range, wider_than_mask}
 use Rattle.paper.specs.Numbers.{Number, signed, negated, numeric, ranged, digits, trimmed, decimal}

@@ -1,4 +1,5 @@
 -- What tests tell: two together, one that refuses, one at every number below a bound, and a number against another. Assumes nothing.
+use Rattle.std.specs.Prelude.{if◌then◌else◌}
 use mathlib.Core.Path.{◌≡◌, refl, sym}
 use mathlib.Core.Bool.{Bool, true, false, ◌&&◌, ◌||◌}
 use mathlib.Core.Logic.{◌⊎◌, inl, inr, ⊎_elim}
@@ -7,7 +8,6 @@ use native.Mathlib.Nat.{not-suc-le-zero, eq-or-lt_of_le, le_of_suc-le-suc}
 use native.Mathlib.Omega.{arith}
 use lib.Dec.{ltb, eqb}
 use borrow.Author.Tests.{eq-eqb, ltb-true, ltb-false}
-use Rattle.paper.specs.Bytes.{if◌then◌else◌}
 use Rattle.paper.specs.Refusals.{given, refuse◌unless◌, refuse◌when◌}
 
 -- both pass

@@ -1,5 +1,6 @@
 -- Document 02, L1, "With T tests in the code": how many bytes steps and tests take at least, two for each but the last byte. So no count of a
 -- checked string is large: "A string has at most 254 tests." Assumes nothing.
+use Rattle.std.specs.Prelude.{if◌then◌else◌}
 use Prim.Native.Nat.{ℕ, zero, suc, ◌+◌, ◌*◌, ◌≤◌, ◌<◌}
 use native.Mathlib.Omega.{arith}
 use mathlib.Core.Path.{◌≡◌, refl}
@@ -8,7 +9,7 @@ use mathlib.Core.List.{List, [], ◌∷◌}
 use mathlib.Core.Option.{Option, none, some}
 use lib.Dec.{eqb}
 use lib.ListN.{length}
-use Rattle.paper.specs.Bytes.{Bytes, if◌then◌else◌, ch, is_digit, digit_value}
+use Rattle.paper.specs.Bytes.{Bytes, ch, is_digit, digit_value}
 use Rattle.paper.specs.Numbers.{Binary, Relation}
 use Rattle.paper.specs.Codes.{Test, Pattern, Plain, Conversion, Elm, Kind}
 use Rattle.paper.specs.Grammar.{Reader, follow, gives, ahead, this, choose, more_digits, quoted, class_letter, count_test, literal_test, test, tests}

@@ -1,15 +1,10 @@
 -- Bytes, and how these definitions write them: quoted text, a character's byte, and a choice between two answers.
-use Rattle.std.specs.Prelude.{ℕ, ◌-◌, Bool, true, false, ◌&&◌, ◌||◌, List, [], ◌∷◌, ◌++◌, length, replicate, leb, eqb}
+use Rattle.std.specs.Prelude.{ℕ, ◌-◌, Bool, true, false, ◌&&◌, ◌||◌, List, [], ◌∷◌, ◌++◌, length, replicate, leb, eqb, if◌then◌else◌}
 use Prim.Native.Char.{Char, code}
 use Prim.Native.String.{String, [] as no_text, ◌∷◌ as ◌then◌}
 
-infix 10 if◌then◌else◌
 abbrev pub Bytes : Type 0
 Bytes = List ℕ
-
-abbrev pub if◌then◌else◌ {ℓ} : {A : Type ℓ} → Bool → A → A → A
-if true then a else b = a
-if false then a else b = b
 
 -- the byte of a quoted character
 abbrev pub ch : Char → ℕ

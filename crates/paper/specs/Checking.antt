@@ -1,7 +1,7 @@
 -- Document 01, "The code grammar" and "Steps" (A and B), and document 02, L1 (P and T) and L5 (18): checking a code string.
-use Rattle.std.specs.Prelude.{ℕ, suc, ◌+◌, ◌-◌, ◌≤◌, List, [], ◌∷◌, length, leb, eqb}
+use Rattle.std.specs.Prelude.{ℕ, suc, ◌+◌, ◌-◌, ◌≤◌, List, [], ◌∷◌, length, leb, eqb, if◌then◌else◌}
 use Rattle.std.proofs.Math.Option.{Option, none, some}
-use Rattle.paper.specs.Bytes.{Bytes, if◌then◌else◌}
+use Rattle.paper.specs.Bytes.{Bytes}
 use Rattle.paper.specs.Sizes.{value_mark, code_most, stack_most}
 use Rattle.paper.specs.Records.{split}
 use Rattle.paper.specs.Codes.{Conversion, Operand, Elm, Code, Kind, Shape}

@@ -1,7 +1,7 @@
 -- Document 01, "What each code gives" (the elements of an address) and "Steps" (budget, count, ceiling), and document 02, L1: converting.
-use Rattle.std.specs.Prelude.{ℕ, zero, suc, ◌+◌, ◌*◌, List, [], ◌∷◌, ◌++◌, length, replicate, leb}
+use Rattle.std.specs.Prelude.{ℕ, zero, suc, ◌+◌, ◌*◌, List, [], ◌∷◌, ◌++◌, length, replicate, leb, if◌then◌else◌}
 use Rattle.std.proofs.Math.Option.{Option, none, some}
-use Rattle.paper.specs.Bytes.{Bytes, if◌then◌else◌, buffer}
+use Rattle.paper.specs.Bytes.{Bytes, buffer}
 use Rattle.paper.specs.Sizes.{value_mark, subvalue_mark, entry_most, scratch_least}
 use Rattle.paper.specs.Records.{Part, split, place, lawful_record, lawful_address}
 use Rattle.paper.specs.Codes.{Elm, Code}

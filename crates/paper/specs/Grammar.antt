@@ -1,7 +1,7 @@
 -- Document 01, "The code grammar", and document 02, L1: readers that look one byte ahead and commit, a line for each line of the grammar.
-use Rattle.std.specs.Prelude.{ℕ, zero, suc, ◌+◌, ◌*◌, Bool, true, false, not, ◌&&◌, ◌||◌, List, [], ◌∷◌, length, ltb, eqb}
+use Rattle.std.specs.Prelude.{ℕ, zero, suc, ◌+◌, ◌*◌, Bool, true, false, not, ◌&&◌, ◌||◌, List, [], ◌∷◌, length, ltb, eqb, if◌then◌else◌}
 use Rattle.std.proofs.Math.Option.{Option, none, some}
-use Rattle.paper.specs.Bytes.{Bytes, if◌then◌else◌, ch, within, is_digit, is_letter, digit_value, any}
+use Rattle.paper.specs.Bytes.{Bytes, ch, within, is_digit, is_letter, digit_value, any}
 use Rattle.paper.specs.Sizes.{is_mark}
 use Rattle.paper.specs.Numbers.{Binary, Relation}
 use Rattle.paper.specs.Codes.{Plain, Credit, Class, Test, Pattern, Conversion, Repeat, Operand, Elm, Code}

@@ -1,7 +1,7 @@
 -- Document 01, "What each code gives", and document 02, L3: numeric form, range, decimal text, and the arithmetic and relations of F.
-use Rattle.std.specs.Prelude.{ℕ, zero, suc, pred, ◌+◌, ◌-◌, ◌*◌, ◌/◌, ◌%◌, ◌^◌, Bool, true, false, not, ◌&&◌, [], ◌∷◌, ◌++◌, reverse, take, drop, leb, ltb, eqb}
+use Rattle.std.specs.Prelude.{ℕ, zero, suc, pred, ◌+◌, ◌-◌, ◌*◌, ◌/◌, ◌%◌, ◌^◌, Bool, true, false, not, ◌&&◌, [], ◌∷◌, ◌++◌, reverse, take, drop, leb, ltb, eqb, if◌then◌else◌}
 use Rattle.std.proofs.Math.Option.{Option, none, some}
-use Rattle.paper.specs.Bytes.{Bytes, if◌then◌else◌, ch, is_digit, digit_value}
+use Rattle.paper.specs.Bytes.{Bytes, ch, is_digit, digit_value}
 use Rattle.paper.specs.Sizes.{number_digits, number_most}
 use Rattle.paper.specs.Refusals.{Res, given, ◌>>=◌, ◌>>◌, refuse◌unless◌, refuse◌when◌, out_of_range, zero_divisor}
 

@@ -1,6 +1,6 @@
 -- Document 02, L1: what the P code gives on one element (SMA:301, 4.13; SMA:101, 2.12).
-use Rattle.std.specs.Prelude.{ℕ, zero, suc, ◌+◌, Bool, true, false, ◌&&◌, ◌||◌, List, [], ◌∷◌, length, eqb}
-use Rattle.paper.specs.Bytes.{Bytes, if◌then◌else◌, is_digit, is_letter, same_bytes}
+use Rattle.std.specs.Prelude.{ℕ, zero, suc, ◌+◌, Bool, true, false, ◌&&◌, ◌||◌, List, [], ◌∷◌, length, eqb, if◌then◌else◌}
+use Rattle.paper.specs.Bytes.{Bytes, is_digit, is_letter, same_bytes}
 use Rattle.paper.specs.Codes.{Class, Test, Pattern}
 
 -- "Letters are ASCII"

@@ -1,7 +1,7 @@
 -- Document 01, "Examples on both sides": the program, from the bytes it reads to the bytes it writes.
-use Rattle.std.specs.Prelude.{ℕ, [], ◌∷◌, ◌++◌, map, take, eqb}
+use Rattle.std.specs.Prelude.{ℕ, [], ◌∷◌, ◌++◌, map, take, eqb, if◌then◌else◌}
 use Rattle.std.proofs.Math.Option.{Option, none, some}
-use Rattle.paper.specs.Bytes.{Bytes, if◌then◌else◌, ch, bytes}
+use Rattle.paper.specs.Bytes.{Bytes, ch, bytes}
 use Rattle.paper.specs.Sizes.{attribute_mark, value_mark, subvalue_mark, record_most, scratch_least}
 use Rattle.paper.specs.Records.{split, nth, or_empty}
 use Rattle.paper.specs.Numbers.{decimal}

@@ -1,6 +1,6 @@
 -- Document 01, "What each code gives" (F) and "Steps", and document 02, L1: a step, its cost, and the run of one element.
-use Rattle.std.specs.Prelude.{ℕ, zero, suc, ◌+◌, ◌*◌, List, [], ◌∷◌, ◌++◌, length, take, drop, leb}
-use Rattle.paper.specs.Bytes.{Bytes, if◌then◌else◌}
+use Rattle.std.specs.Prelude.{ℕ, zero, suc, ◌+◌, ◌*◌, List, [], ◌∷◌, ◌++◌, length, take, drop, leb, if◌then◌else◌}
+use Rattle.paper.specs.Bytes.{Bytes}
 use Rattle.paper.specs.Records.{Turn, path, reads}
 use Rattle.paper.specs.Numbers.{binary_gives, substring_gives}
 use Rattle.paper.specs.Codes.{Conversion, Repeat, Operand, Elm, Code, Kind}

@@ -1,7 +1,7 @@
 -- Document 01, "What each code gives": G, T, L, MC, MX and MY on one element.
-use Rattle.std.specs.Prelude.{ℕ, pred, ◌+◌, ◌-◌, ◌*◌, ◌/◌, ◌%◌, Bool, false, not, [], ◌∷◌, map, length, take, drop, ltb}
+use Rattle.std.specs.Prelude.{ℕ, pred, ◌+◌, ◌-◌, ◌*◌, ◌/◌, ◌%◌, Bool, false, not, [], ◌∷◌, map, length, take, drop, ltb, if◌then◌else◌}
 use Rattle.std.proofs.Math.Option.{Option, none, some}
-use Rattle.paper.specs.Bytes.{Bytes, if◌then◌else◌, ch, within, is_digit, is_upper, is_lower, is_letter, any, only}
+use Rattle.paper.specs.Bytes.{Bytes, ch, within, is_digit, is_upper, is_lower, is_letter, any, only}
 use Rattle.paper.specs.Sizes.{is_mark}
 use Rattle.paper.specs.Records.{split, join}
 use Rattle.paper.specs.Numbers.{decimal}

@@ -1,7 +1,7 @@
 -- Document 01, "What each code gives" (typed dates) and their refusals: 5, then 6, then 12.
-use Rattle.std.specs.Prelude.{ℕ, zero, suc, pred, ◌+◌, ◌*◌, Bool, true, ◌&&◌, List, [], ◌∷◌, length, get_or, leb, ltb}
+use Rattle.std.specs.Prelude.{ℕ, zero, suc, pred, ◌+◌, ◌*◌, Bool, true, ◌&&◌, List, [], ◌∷◌, length, get_or, leb, ltb, if◌then◌else◌}
 use Rattle.std.proofs.Math.Option.{Option, none, some}
-use Rattle.paper.specs.Bytes.{Bytes, if◌then◌else◌, ch, is_digit, is_letter, digit_value, within, same_bytes}
+use Rattle.paper.specs.Bytes.{Bytes, ch, is_digit, is_letter, digit_value, within, same_bytes}
 use Rattle.paper.specs.Sizes.{code_most}
 use Rattle.paper.specs.Numbers.{Number, signed, plus, natural}
 use Rattle.paper.specs.Codes.{Conversion, Code}

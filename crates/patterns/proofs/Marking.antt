@@ -1,4 +1,5 @@
 -- How a test moves the flags of the places that are reached, over plain lists: any number of a class, and so many bytes exactly. Assumes nothing.
+use Rattle.std.specs.Prelude.{if◌then◌else◌}
 use Prim.Native.Nat.{ℕ, zero, suc, ◌+◌, ◌-◌, ◌≤◌, ◌<◌}
 use native.Mathlib.Nat.{add-zero}
 use native.Mathlib.Numerals.{add-one}
@@ -12,7 +13,7 @@ use lib.Seq.{drop-cons, get_or-set_same, get_or-set_other, get_or-append-add, ge
 use lib.Dec.{leb, eqb}
 use lib.Bits.{bit_and, bit_or}
 use borrow.Author.Tests.{eq-eqb, ne_eqb, le-leb}
-use Rattle.paper.specs.Bytes.{Bytes, if◌then◌else◌, same_bytes}
+use Rattle.paper.specs.Bytes.{Bytes, same_bytes}
 use Rattle.paper.specs.Codes.{Class, Test}
 use Rattle.paper.specs.Patterns.{of_class, every, meets}
 use Rattle.paper.proofs.Truths.{ltb_or}

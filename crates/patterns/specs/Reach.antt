@@ -1,6 +1,6 @@
 -- Places of an element that the tests so far can end at, as flags: a byte for each place, 1 where the bytes in front of it pass, else 0.
-use Rattle.std.specs.Prelude.{ℕ, ◌+◌, ◌≤◌, ◌<◌, ◌≡◌, Bool, length, get_or, take, drop, leb}
-use Rattle.paper.specs.Bytes.{Bytes, if◌then◌else◌, same_bytes}
+use Rattle.std.specs.Prelude.{ℕ, ◌+◌, ◌≤◌, ◌<◌, ◌≡◌, Bool, length, get_or, take, drop, leb, if◌then◌else◌}
+use Rattle.paper.specs.Bytes.{Bytes, same_bytes}
 use Rattle.paper.specs.Codes as paper
 use Rattle.paper.proofs.Patterns.{cut_by, run}
 use Rattle.codes.specs.declared.Test.{Test}

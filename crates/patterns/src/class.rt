@@ -1,6 +1,5 @@
 // The classes of a test: "`nN`, `nA`, `nX`" (SMA:101, 2.12: numeric, alpha, any character).
-ghost use Rattle.std.specs.Prelude.{◌≡◌, ◌+◌, ◌<◌, ◌^◌};
-ghost use Rattle.paper.specs.Bytes.{if◌then◌else◌};
+ghost use Rattle.std.specs.Prelude.{◌≡◌, ◌+◌, ◌<◌, ◌^◌, if◌then◌else◌};
 ghost use Rattle.paper.specs.Patterns.{of_class};
 ghost use Rattle.codes.specs.Meaning.{class_of};
 ghost use Rattle.patterns.specs.Reach.{flag};

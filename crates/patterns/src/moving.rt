@@ -1,7 +1,7 @@
 // One test for all cuts at once: the flags of the places that the tests so far can end at are moved on in place, in one pass over the element.
 // "if it can be cut into consecutive parts that meet the tests in turn": no place is given up for another, and none is tried twice.
-ghost use Rattle.std.specs.Prelude.{◌≡◌, Bool, ◌+◌, ◌≤◌, ◌<◌, length, drop, leb};
-ghost use Rattle.paper.specs.Bytes.{Bytes, if◌then◌else◌, same_bytes};
+ghost use Rattle.std.specs.Prelude.{◌≡◌, Bool, ◌+◌, ◌≤◌, ◌<◌, length, drop, leb, if◌then◌else◌};
+ghost use Rattle.paper.specs.Bytes.{Bytes, same_bytes};
 ghost use Rattle.paper.specs.Codes as paper;
 ghost use Rattle.paper.proofs.Patterns.{cut_by};
 ghost use Rattle.codes.specs.Meaning.{class_of, test_of};

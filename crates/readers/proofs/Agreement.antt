@@ -1,5 +1,6 @@
 -- A reader by place agrees with the paper's reader: both read the same thing and stop at the same place, or both read nothing.
 -- One law for each way in which readers are put together; AgreementLines.antt, here and in crates/grammar, has a line for each line of the grammar.
+use Rattle.std.specs.Prelude.{if◌then◌else◌}
 use Prim.Native.Nat.{ℕ, zero, suc, ◌<◌, ◌≤◌, ◌+◌, ◌*◌}
 use mathlib.Core.Path.{◌≡◌, refl, sym, ap, ◌∙◌}
 use mathlib.Core.Bool.{Bool, true, false, not, ◌&&◌}
@@ -11,7 +12,7 @@ use lib.Dec.{T, eqb}
 use native.Mathlib.Numerals.{add-one}
 use native.Mathlib.Omega.{arith}
 use borrow.Author.Tests.{eq-eqb, eqb-true}
-use Rattle.paper.specs.Bytes.{Bytes, if◌then◌else◌, is_digit, digit_value}
+use Rattle.paper.specs.Bytes.{Bytes, is_digit, digit_value}
 use Rattle.paper.specs.Grammar as paper
 use Rattle.readers.specs.Places.{Placed, byte_at, after, follow, follow_or, gives, fails, only_if, ahead, choose_or, this, flag, digit, digit_ahead, more_digits, numeral, numeral_ahead, num}
 use Rattle.paper.proofs.Truths.{ltb_or}

@@ -1,5 +1,6 @@
 -- What the readers of the grammar keep a code other than F within: digits, a mask's width, the patterns of a P code. One walk over the readers; what others
 -- ask of a code that was read follows from it. Assumes nothing.
+use Rattle.std.specs.Prelude.{if◌then◌else◌}
 use mathlib.Core.Path.{◌≡◌, refl}
 use mathlib.Core.Bool.{Bool, true, false, ◌&&◌}
 use mathlib.Core.List.{List}
@@ -9,7 +10,7 @@ use native.Mathlib.Omega.{arith}
 use lib.ListN.{drop}
 use lib.Dec.{leb, lit≤}
 use borrow.Author.Tests.{leb-true}
-use Rattle.paper.specs.Bytes.{Bytes, if◌then◌else◌, within, digit_value}
+use Rattle.paper.specs.Bytes.{Bytes, within, digit_value}
 use Rattle.paper.specs.Codes.{Pattern}
 use Rattle.paper.specs.Grammar.{is_separator, pattern_list}
 use Rattle.paper.specs.Patterns.{tests_in}

@@ -1,4 +1,5 @@
 -- What a reader by place gives once the byte ahead, or what was read first, is known: one law for each way to go on.
+use Rattle.std.specs.Prelude.{if◌then◌else◌}
 use Prim.Native.Nat.{ℕ, zero, suc, ◌<◌, ◌≤◌, ◌+◌, ◌-◌, ◌*◌, ◌^◌}
 use mathlib.Core.Path.{◌≡◌, refl, sym, ap, ◌∙◌}
 use mathlib.Core.Bool.{Bool, true, false, ◌||◌}
@@ -10,7 +11,7 @@ use native.Mathlib.Nat.{pow-suc, mul-le-mul_right, le-mul_of_pos_right}
 use native.Mathlib.Numerals.{sub-one}
 use native.Mathlib.Omega.{arith}
 use borrow.Author.Tests.{lt-ltb, eq-eqb, ne_eqb}
-use Rattle.paper.specs.Bytes.{Bytes, if◌then◌else◌, within, is_digit, digit_value}
+use Rattle.paper.specs.Bytes.{Bytes, within, is_digit, digit_value}
 use Rattle.readers.specs.Places.{Placed, Peeked, byte_at, after, choose_or, this, digit, more_digits}
 use Rattle.paper.proofs.Truths.{ltb_or}
 use Rattle.paper.proofs.Ranges.{within_yes, within_below, within_above}

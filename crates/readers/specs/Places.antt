@@ -1,8 +1,8 @@
 -- The paper's readers (crates/paper/specs/Grammar.antt) by place: what stands at a place of the bytes and the place after it, or none.
 -- Past the end stands the segment mark, which no reader takes. proofs/Agreement.antt ties each to the paper's.
-use Rattle.std.specs.Prelude.{ℕ, zero, suc, ◌+◌, ◌-◌, ◌*◌, ◌≡◌, Bool, true, false, List, [], ◌∷◌, length, get_or, drop, ltb, eqb}
+use Rattle.std.specs.Prelude.{ℕ, zero, suc, ◌+◌, ◌-◌, ◌*◌, ◌≡◌, Bool, true, false, List, [], ◌∷◌, length, get_or, drop, ltb, eqb, if◌then◌else◌}
 use Rattle.std.proofs.Math.Option.{Option, none, some}
-use Rattle.paper.specs.Bytes.{Bytes, if◌then◌else◌, is_digit, digit_value}
+use Rattle.paper.specs.Bytes.{Bytes, is_digit, digit_value}
 use Rattle.paper.specs.Sizes.{segment_mark}
 
 infixl 5 ◌>>=◌ ◌>>◌

@@ -1,4 +1,5 @@
 -- Tests in their order: a refusal's number tells whether a test was passed, and each test of a record and an address by what it asks.
+use Rattle.std.specs.Prelude.{if◌then◌else◌}
 use mathlib.Core.Path.{◌≡◌, refl, sym, ap, ◌∙◌}
 use mathlib.Core.Bool.{Bool, true, false, ◌&&◌, ◌||◌, not}
 use Prim.Native.Nat.{ℕ, suc, ◌+◌, ◌-◌, ◌≤◌, ◌<◌}
@@ -6,7 +7,7 @@ use native.Mathlib.Omega.{arith}
 use lib.ListN.{length, take, drop}
 use lib.Dec.{leb, ltb, eqb}
 use borrow.Author.Tests.{le-leb, lt-leb}
-use Rattle.paper.specs.Bytes.{Bytes, any, if◌then◌else◌}
+use Rattle.paper.specs.Bytes.{Bytes, any}
 use Rattle.paper.specs.Sizes.{attribute_mark, value_mark, subvalue_mark, buffer_mark, segment_mark, is_outer_mark, is_inner_mark, record_most, id_most, attribute_most, position_most}
 use Rattle.paper.specs.Refusals.{Res, given, refused, ◌>>◌, refuse◌unless◌, refuse◌when◌, refusal_of}
 use Rattle.paper.specs.Records.{id_of, lawful_id, lawful_record, lawful_address}

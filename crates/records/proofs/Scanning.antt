@@ -1,4 +1,5 @@
 -- A walk mark by mark, and the pieces between the marks: where a scan stops, what stands there, and what is written there when that is made anew.
+use Rattle.std.specs.Prelude.{if◌then◌else◌}
 use mathlib.Core.Path.{◌≡◌, refl, sym, ap, ◌∙◌}
 use mathlib.Core.Bool.{Bool, true, false, true≢false}
 use mathlib.Core.List.{List, [], ◌∷◌, ◌++◌, append_assoc, append-nil}
@@ -9,7 +10,7 @@ use lib.ListN.{length, take, drop, replicate, length-append, length-drop, take-a
 use lib.Seq.{drop-drop, take-add, take-append_seam, drop-append_seam}
 use lib.Dec.{eqb, eqb-suc-zero}
 use borrow.Author.Tests.{eq-eqb, ne_eqb, eqb-false}
-use Rattle.paper.specs.Bytes.{Bytes, within, if◌then◌else◌}
+use Rattle.paper.specs.Bytes.{Bytes, within}
 use Rattle.paper.specs.Sizes.{attribute_mark}
 use Rattle.paper.specs.Records.{split, join, alter, Part, placed, nth}
 use Rattle.paper.proofs.Ranges.{within_yes, within_true, not_within}

@@ -1,5 +1,6 @@
 -- The spot of an address is what `paper` says of it: the attribute, and then the value and the subvalue inside it; what stands there, and what
 -- replacing writes there.
+use Rattle.std.specs.Prelude.{if◌then◌else◌}
 use mathlib.Core.Path.{◌≡◌, refl, sym, ap, ◌∙◌}
 use mathlib.Core.Bool.{Bool, true, false, ◌&&◌}
 use mathlib.Core.List.{List, [], ◌∷◌, ◌++◌, append_assoc, append-nil}
@@ -9,7 +10,7 @@ use native.Mathlib.Omega.{arith}
 use lib.ListN.{length, take, drop, replicate, length-append, length-drop, length-replicate}
 use lib.Seq.{length-take-le, drop-drop, drop-length}
 use lib.Dec.{eqb, lit≤}
-use Rattle.paper.specs.Bytes.{Bytes, if◌then◌else◌}
+use Rattle.paper.specs.Bytes.{Bytes}
 use Rattle.paper.specs.Sizes.{attribute_mark, value_mark, subvalue_mark}
 use Rattle.paper.specs.Refusals.{given}
 use Rattle.paper.specs.Records.{split, join, alter, Part, pieces, nth, Turn, turn, path, part_at, and_then, whole, place, replaced}

@@ -1,4 +1,5 @@
 -- What one turn of each loop does, over plain lists: what the rest gives from the next place is what it gives from this one.
+use Rattle.std.specs.Prelude.{if◌then◌else◌}
 use mathlib.Core.Path.{◌≡◌, refl, ap, ◌∙◌}
 use mathlib.Core.Bool.{Bool, true, false, true≢false, ◌||◌}
 use mathlib.Core.List.{[], ◌∷◌, ◌++◌}
@@ -8,7 +9,7 @@ use native.Mathlib.Omega.{arith}
 use lib.ListN.{length, drop, get_or, drop_of_length-le}
 use lib.Dec.{eqb, leb}
 use borrow.Author.Tests.{eq-eqb, ne_eqb, leb-false}
-use Rattle.paper.specs.Bytes.{Bytes, any, within, if◌then◌else◌}
+use Rattle.paper.specs.Bytes.{Bytes, any, within}
 use Rattle.paper.specs.Sizes.{attribute_mark}
 use Rattle.lent.specs.Scan.{range}
 use Rattle.lent.proofs.Scans.{next}

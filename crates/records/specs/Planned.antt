@@ -1,6 +1,6 @@
 -- What a replacement is to do, as the enum of the code, and the tests that lead to it.
-use Rattle.std.specs.Prelude.{ℕ, ◌≤◌, ◌&&◌, length, leb, ltb, eqb}
-use Rattle.paper.specs.Bytes.{Bytes, any, if◌then◌else◌}
+use Rattle.std.specs.Prelude.{ℕ, ◌≤◌, ◌&&◌, length, leb, ltb, eqb, if◌then◌else◌}
+use Rattle.paper.specs.Bytes.{Bytes, any}
 use Rattle.paper.specs.Sizes.{is_mark, entry_most, id_most, record_most, position_most}
 use Rattle.paper.specs.Refusals.{Res, given, refused, ◌>>◌, refuse◌unless◌, refuse◌when◌, over_long_record, over_long_entry, mark_in_element, bad_id, short_output}
 use Rattle.paper.specs.declared.Given.{Given}

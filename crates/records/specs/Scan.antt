@@ -1,6 +1,6 @@
 -- How the code walks a record, byte by byte. Furniture for the proofs: proofs/Spots.antt ties each to the definitions of `paper`.
-use Rattle.std.specs.Prelude.{ℕ, zero, suc, ◌+◌, ◌-◌, Bool, ◌||◌, [], ◌∷◌, ◌++◌, length, take, drop, replicate, eqb}
-use Rattle.paper.specs.Bytes.{Bytes, within, if◌then◌else◌}
+use Rattle.std.specs.Prelude.{ℕ, zero, suc, ◌+◌, ◌-◌, Bool, ◌||◌, [], ◌∷◌, ◌++◌, length, take, drop, replicate, eqb, if◌then◌else◌}
+use Rattle.paper.specs.Bytes.{Bytes, within}
 use Rattle.paper.specs.Sizes.{attribute_mark, value_mark, subvalue_mark}
 use Rattle.lent.specs.Scan.{upto}
 use Rattle.records.specs.declared.Stop.{Stop}

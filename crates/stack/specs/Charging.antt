@@ -1,6 +1,6 @@
 -- The end of a step, as the code answers it: its cost or its refusal, and what the slots hold then.
-use Rattle.std.specs.Prelude.{ℕ, ◌+◌, ◌≡◌, List, [], ◌∷◌, length, take, leb}
-use Rattle.paper.specs.Bytes.{Bytes, if◌then◌else◌}
+use Rattle.std.specs.Prelude.{ℕ, ◌+◌, ◌≡◌, List, [], ◌∷◌, length, take, leb, if◌then◌else◌}
+use Rattle.paper.specs.Bytes.{Bytes}
 use Rattle.paper.specs.Refusals.{Res, given, refused, over_budget}
 use Rattle.paper.specs.declared.Given.{Given}
 use Rattle.stack.specs.Slots.{entry_at, stack_of, element_slot, Slotted}

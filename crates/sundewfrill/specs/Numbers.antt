@@ -1,8 +1,8 @@
 -- The numbers that the exported calls give, for each case of an answer: first of the paper's answers, then of the code's.
 -- Document 01: "A number not given here, by any call, is 0."
-use Rattle.std.specs.Prelude.{ℕ, length}
+use Rattle.std.specs.Prelude.{ℕ, length, if◌then◌else◌}
 use Rattle.std.proofs.Math.Option.{Option, none, some}
-use Rattle.paper.specs.Bytes.{Bytes, if◌then◌else◌}
+use Rattle.paper.specs.Bytes.{Bytes}
 use Rattle.paper.specs.Refusals.{Res, given, refused, answer_of}
 use Rattle.paper.specs.Answers.{refusal_in, length_in}
 use Rattle.paper.specs.Numbers.{Number}

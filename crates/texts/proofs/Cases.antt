@@ -1,11 +1,12 @@
 -- The case of a letter is one bit of its byte: proved by one test that antt computes at every byte.
+use Rattle.std.specs.Prelude.{if◌then◌else◌}
 use mathlib.Core.Path.{◌≡◌, refl}
 use mathlib.Core.Bool.{Bool, true, false, ◌&&◌}
 use Prim.Native.Nat.{ℕ, ◌<◌}
 use lib.Bits.{bit_and, bit_or}
 use lib.Dec.{eqb}
 use borrow.Author.Tests.{eqb-true}
-use Rattle.paper.specs.Bytes.{if◌then◌else◌, is_letter, is_upper, is_lower}
+use Rattle.paper.specs.Bytes.{is_letter, is_upper, is_lower}
 use Rattle.paper.specs.Texts.{raised, lowered}
 use Rattle.paper.proofs.Truths.{both, below, passed}
 

@@ -1,4 +1,5 @@
 -- Each code as the scan that the code makes, a byte a turn, and that the scan is what document 01 says.
+use Rattle.std.specs.Prelude.{if◌then◌else◌}
 use mathlib.Core.Path.{◌≡◌, refl, ap}
 use mathlib.Core.Bool.{Bool, true, false}
 use mathlib.Core.List.{[], ◌∷◌, map}
@@ -6,7 +7,7 @@ use Prim.Native.Nat.{ℕ, suc, ◌+◌, ◌≤◌, ◌<◌}
 use native.Mathlib.Nat.{le_refl}
 use native.Mathlib.Omega.{arith}
 use lib.ListN.{length, take, drop, get_or, length-take, length-drop, drop_of_length-le}
-use Rattle.paper.specs.Bytes.{Bytes, if◌then◌else◌, is_letter, only}
+use Rattle.paper.specs.Bytes.{Bytes, is_letter, only}
 use Rattle.paper.specs.Refusals.{given}
 use Rattle.paper.specs.Texts.{plain_gives, raised, lowered, titled}
 use Rattle.paper.proofs.Truths.{chosen}

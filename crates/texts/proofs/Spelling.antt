@@ -1,4 +1,5 @@
 -- MX and MY: their scans, a byte or a pair of hex digits a turn, and that MY gives back what MX made.
+use Rattle.std.specs.Prelude.{if◌then◌else◌}
 use mathlib.Core.Path.{◌≡◌, refl, ap, ◌∙◌}
 use mathlib.Core.Bool.{Bool, true, false, not, ◌||◌}
 use mathlib.Core.List.{[], ◌∷◌}
@@ -9,7 +10,7 @@ use native.Mathlib.Omega.{arith}
 use lib.Dec.{ltb}
 use lib.ListN.{length, drop, get_or, length-drop, drop_of_length-le}
 use borrow.Author.Tests.{ltb-true, ltb-false}
-use Rattle.paper.specs.Bytes.{Bytes, if◌then◌else◌, is_digit, any, within}
+use Rattle.paper.specs.Bytes.{Bytes, is_digit, any, within}
 use Rattle.paper.specs.Sizes.{is_mark, entry_most}
 use Rattle.paper.specs.Refusals.{given, refused, not_convertible, mark_from_hex}
 use Rattle.paper.specs.Codes.{Plain}

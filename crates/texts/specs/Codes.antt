@@ -1,6 +1,6 @@
 -- What the contracts of this crate share: the paper's code for each case of an enum, and what a code comes to on one element.
-use Rattle.std.specs.Prelude.{Bool, not, ℕ}
-use Rattle.paper.specs.Bytes.{Bytes, if◌then◌else◌, is_letter, is_digit}
+use Rattle.std.specs.Prelude.{Bool, not, ℕ, if◌then◌else◌}
+use Rattle.paper.specs.Bytes.{Bytes, is_letter, is_digit}
 use Rattle.paper.specs.Sizes.{entry_most}
 use Rattle.paper.specs.Refusals.{Res}
 use Rattle.paper.specs.Codes.{Plain}

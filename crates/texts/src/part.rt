@@ -1,6 +1,6 @@
 // Parts of an element: what stands in front of a place or behind it, and its fields.
-ghost use Rattle.std.specs.Prelude.{◌≡◌, pred, [], length, take, drop};
-ghost use Rattle.paper.specs.Bytes.{if◌then◌else◌, within};
+ghost use Rattle.std.specs.Prelude.{◌≡◌, pred, [], length, take, drop, if◌then◌else◌};
+ghost use Rattle.paper.specs.Bytes.{within};
 ghost use Rattle.texts.specs.Scans.{field_end, fields_after, first_fields};
 
 // A place counted from 1 as one counted from 0.
