@@ -6,6 +6,7 @@
 
 mod common;
 
+use std::ffi::OsString;
 use std::fs;
 use std::os::unix::fs::{symlink, PermissionsExt};
 use std::path::Path;
@@ -21,6 +22,8 @@ use sundewfrill_host::paper;
 const NOTHING: &[&str] = &[];
 /// Document 01's first example.
 const EXAMPLE: &str = "0 62 30]60\n";
+/// The crates of the programs behind the script.
+const PROGRAMS: [&str; 3] = ["console", "formula", "words"];
 
 #[test]
 fn conversions() {
@@ -588,55 +591,75 @@ fn rt(folder: &Path, script: &str) {
     fs::set_permissions(&rt, fs::Permissions::from_mode(0o755)).expect("the file is ours");
 }
 
+/// A kit in this folder, whose `rt` does this; the rest of it is that of the kit. Gives the
+/// PATH by which it is found.
+fn kit_with(folder: &Path, script: &str) -> OsString {
+    let (made, bin) = (folder.join("kit"), folder.join("kit/bin"));
+    fs::create_dir_all(&bin).expect("the folder is ours");
+    for part in ["KIT-ID", "toolchain"] {
+        symlink(kit().join(part), made.join(part)).expect("a link");
+    }
+    rt(&bin, script);
+    path_with(&bin)
+}
+
 /// Nothing has changed, so nothing is proved: a command that proves nothing will do.
 #[test]
 fn unchanged() {
     let folder = Folder::new("unchanged");
-    rt(&folder.path, "exit 1");
-    let call = typed("./console").with("PATH", path_with(&folder.path));
-    call.with("RATTLE_HOME", kit()).writes(EXAMPLE, NOTHING, 0);
+    let path = kit_with(&folder.path, "exit 1");
+    let call = typed("./console").with("PATH", path);
+    call.writes(EXAMPLE, NOTHING, 0);
 }
 
-/// A copy of the script with hardly a source, and an `rt` that counts its calls, takes
-/// so many seconds, and then the programs from here.
-fn copy(name: &str, seconds: u32) -> Folder {
+/// A copy of the script with hardly a source, its kit, whose `rt` counts its calls, takes
+/// so many seconds, and then the folder's program from here; and the PATH to that.
+struct Copy {
+    folder: Folder,
+    path: OsString,
+}
+
+fn copy(name: &str, seconds: u32) -> Copy {
     let folder = Folder::new(name);
     let parts = ["console", "command", "docs"].map(|part| format!("'{ROOT}'/{part}"));
     let parts = parts.join(" ");
-    let made = format!("mkdir crates calls && cp -r {parts} . && touch crates/one crates.txt");
+    let crates = PROGRAMS.map(|program| format!("crates/{program}/out"));
+    let crates = crates.join(" ");
+    let made = format!("mkdir -p calls {crates} && cp -r {parts} . && touch crates/one crates.txt");
     typed(&made).from(&folder.path).writes("", NOTHING, 0);
-    let taken = format!("mkdir -p target/bin && cp '{ROOT}'/target/bin/* target/bin");
-    rt(
-        &folder.path,
-        &format!("mktemp -p calls && sleep {seconds} && {taken}"),
-    );
-    folder
+    let taken = format!("cp '{ROOT}'/target/bin/\"${{PWD##*/}}\" out");
+    let script = format!("mktemp -p ../../calls && sleep {seconds} && {taken}");
+    let path = kit_with(&folder.path, &script);
+    Copy { folder, path }
 }
 
-/// What is typed in a copy, by its own `rt`.
-fn in_copy(folder: &Folder, line: &str) -> Written {
-    let call = typed(line).from(&folder.path);
-    let call = call.with("PATH", path_with(&folder.path));
-    call.with("RATTLE_HOME", kit()).run()
-}
+impl Copy {
+    /// What is typed in it, by its own `rt`.
+    fn typed(&self, line: &str) -> Written {
+        let call = typed(line).from(&self.folder.path);
+        call.with("PATH", &self.path).run()
+    }
 
-/// How often the `rt` of a copy was called.
-fn proved(folder: &Folder) -> usize {
-    let calls = fs::read_dir(folder.path.join("calls"));
-    calls.expect("the folder is ours").count()
+    /// How often all of it was proved: each time `rt` is called in each program's folder.
+    fn proved(&self) -> usize {
+        let calls = fs::read_dir(self.folder.path.join("calls"));
+        let calls = calls.expect("the folder is ours").count();
+        assert_eq!(calls % PROGRAMS.len(), 0, "{calls} calls");
+        calls / PROGRAMS.len()
+    }
 }
 
 /// Something has changed, so it is proved, once.
 #[test]
 fn changed() {
-    let folder = copy("changed", 0);
+    let copy = copy("changed", 0);
     let must_prove = |change: &str, times: usize| {
-        typed(change).from(&folder.path).writes("", NOTHING, 0);
-        let written = in_copy(&folder, "./console");
+        typed(change).from(&copy.folder.path).writes("", NOTHING, 0);
+        let written = copy.typed("./console");
         let begins = |line: &String| line.starts_with("proving ");
         assert!(written.lines.iter().all(begins), "{written}");
         written.must_be(EXAMPLE.as_bytes(), &written.lines, 0);
-        assert_eq!(proved(&folder), times, "behind {change:?}");
+        assert_eq!(copy.proved(), times, "behind {change:?}");
     };
     must_prove("true", 1);
     must_prove("true", 1);
@@ -646,17 +669,23 @@ fn changed() {
     must_prove("rm target/bin/formula", 4);
     must_prove("touch crates/one", 4);
     must_prove("touch crates/two", 5);
+    // what rt makes is no source, but where it does not lie in a crate's own folder out/
+    must_prove("echo >> crates/words/out/words", 5);
+    must_prove(
+        "mkdir -p crates/words/proofs/out && touch crates/words/proofs/out/one",
+        6,
+    );
 }
 
 /// Of calls at the same time one proves, and the others wait for it.
 #[test]
 fn at_the_same_time() {
-    let folder = copy("at the same time", 3);
-    let written = in_copy(&folder, "./console & ./console & ./console & wait");
+    let copy = copy("at the same time", 1);
+    let written = copy.typed("./console & ./console & ./console & wait");
     written.must_be(EXAMPLE.repeat(3).as_bytes(), &written.lines, 0);
     let waits = "waiting for another call that is proving here";
     assert!(written.lines.iter().any(|line| line == waits), "{written}");
-    assert_eq!(proved(&folder), 1);
+    assert_eq!(copy.proved(), 1);
 }
 
 /// A copy of the script alone says what is missing, and a shell that is not bash calls it.
@@ -684,10 +713,13 @@ fn nothing_to_read_or_write() {
 ./console algebra A1 1,0,0 'K1^1' >&- => standard output cannot be written
 ./console --help > /dev/full => standard output cannot be written
 PATH=$NO_KIT; export PATH; ./console => the Rattle kit's command rt is not on the PATH, or not all of the kit is there
-RATTLE_HOME='/no such kit' ./console => the Rattle kit's command rt is not on the PATH, or not all of the kit is there
+PATH=$NO_KIT:$HALF_KIT; export PATH; ./console => the Rattle kit's command rt is not on the PATH, or not all of the kit is there
 TMPDIR='/no such folder' ./console => no folder for temporary files can be made"#;
+    let half = Folder::new("half a kit");
+    rt(&half.path, "exit 1");
     for [line, wrong] in rows(table) {
         let call = typed(&line).with("NO_KIT", path_without_rt());
+        let call = call.with("HALF_KIT", &half.path);
         call.writes("", &[wrong], 3);
     }
     typed("./console <&-").writes(EXAMPLE, NOTHING, 0);

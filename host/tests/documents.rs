@@ -230,8 +230,7 @@ fn closed_up(text: &str) -> String {
 /// The checks above on documents that are wrong: each must be found out.
 mod made_up {
     use std::fs;
-    use std::io::ErrorKind;
-    use std::os::unix::fs::symlink;
+    use std::os::unix::fs::PermissionsExt;
     use std::path::PathBuf;
 
     use super::*;
@@ -352,14 +351,13 @@ mod made_up {
         assert_eq!(lines(&wrong_part(&document, "The elms", "A")), [0]);
     }
 
-    /// A folder whose `./console` is a shell.
+    /// A folder whose `./console` is a shell: no link, which `rt ci` would find there.
     fn folder() -> PathBuf {
         let folder = Path::new(env!("CARGO_TARGET_TMPDIR")).join("documents");
+        let console = folder.join("console");
         fs::create_dir_all(&folder).expect("a folder for tests takes another");
-        match symlink("/bin/sh", folder.join("console")) {
-            Err(error) if error.kind() == ErrorKind::AlreadyExists => {}
-            made => made.expect("a folder for tests takes a link"),
-        }
+        fs::write(&console, "#!/bin/sh\nexec /bin/sh \"$@\"\n").expect("and a file");
+        fs::set_permissions(&console, fs::Permissions::from_mode(0o755)).expect("it is ours");
         folder
     }
 

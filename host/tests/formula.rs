@@ -69,6 +69,12 @@ fn end_of_reading() {
     }
 }
 
+/// What cannot be read is no empty input, and what is not written no answer.
+#[test]
+fn failing_streams() {
+    FORMULA.must_end_where_streams_fail();
+}
+
 /// The lengths of code and text and the entries held, each met exactly and passed by
 /// one. A text of 512 bytes is shown whole: there is no refusal 16.
 #[test]

@@ -64,6 +64,12 @@ fn end_of_reading() {
     }
 }
 
+/// What cannot be read is no empty input, and what is not written no answer.
+#[test]
+fn failing_streams() {
+    CONSOLE.must_end_where_streams_fail();
+}
+
 /// The budget and the output of the program, each met exactly and passed by
 /// one; and a mark from MY. No row of `program.tsv` has these refusals.
 #[test]

@@ -154,6 +154,12 @@ fn end_of_reading() {
     }
 }
 
+/// What cannot be read is no empty input, and what is not written no answer.
+#[test]
+fn failing_streams() {
+    WORDS.must_end_where_streams_fail();
+}
+
 /// A record of 32,768 bytes is let in and shown whole, one of 32,769 is refused:
 /// wherever a record is given, and where one is made.
 #[test]

@@ -1,6 +1,7 @@
 //! Programs, run as a user runs them.
 
 use std::env;
+use std::fs::File;
 use std::io::Write;
 use std::process::{Command, Output, Stdio};
 
@@ -37,14 +38,17 @@ pub const WORDS: Program = Program {
 };
 
 impl Program {
+    /// The words of the command that runs it.
+    fn command(&self) -> Vec<String> {
+        let words = env::var(self.variable);
+        let words = words.unwrap_or_else(|_| self.usual.to_owned());
+        words.split('\n').map(str::to_owned).collect()
+    }
+
     /// What the program writes for this input; on standard error it must write
     /// nothing.
     pub fn written(&self, input: &[u8]) -> Vec<u8> {
-        let command = env::var(self.variable);
-        let words: Vec<&str> = match &command {
-            Ok(command) => command.split('\n').collect(),
-            Err(_) => vec![self.usual],
-        };
+        let words = self.command();
         let output = run(&words, input);
         assert!(output.status.success(), "{words:?}: {}", output.status);
         let said = String::from_utf8_lossy(&output.stderr);
@@ -65,6 +69,24 @@ impl Program {
         written
     }
 
+    /// Fails unless the program ends with an error and without an answer where it cannot
+    /// read, and with an error where it cannot write.
+    pub fn must_end_where_streams_fail(&self) {
+        let words = self.command();
+        let must_end = |input: &str, output: Stdio| {
+            let mut command = Command::new(&words[0]);
+            command.args(&words[1..]).stdout(output);
+            command.stdin(File::open(input).expect("it can be opened"));
+            let output = command.output().expect("the command ends");
+            assert_eq!(output.status.code(), Some(1), "{command:?} < {input}");
+            let answer = String::from_utf8_lossy(&output.stdout);
+            assert_eq!(answer, "", "{command:?} < {input}");
+        };
+        let full = File::options().write(true).open("/dev/full");
+        must_end("/", Stdio::piped());
+        must_end("/dev/null", full.expect("it can be opened").into());
+    }
+
     /// Fails unless both write this for the input.
     pub fn must_write(&self, input: &[u8], expected: &str) {
         let written = self.compared(input);
@@ -74,8 +96,8 @@ impl Program {
 }
 
 /// Runs a command on this input to its end.
-pub fn run(words: &[&str], input: &[u8]) -> Output {
-    let mut child = Command::new(words[0])
+fn run(words: &[String], input: &[u8]) -> Output {
+    let mut child = Command::new(&words[0])
         .args(&words[1..])
         .stdin(Stdio::piped())
         .stdout(Stdio::piped())

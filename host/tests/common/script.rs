@@ -211,11 +211,8 @@ fn path_of(folders: impl Iterator<Item = PathBuf>) -> OsString {
     env::join_paths(folders).expect("no colon stands in a folder's name")
 }
 
-/// The kit's folder: the one that is set, or that in which a folder has the command.
+/// The kit's folder: that in which a folder has the command.
 pub fn kit() -> PathBuf {
-    if let Some(kit) = env::var_os("RATTLE_HOME") {
-        return kit.into();
-    }
     require_rt();
     let commands = folders().into_iter().map(|folder| folder.join("rt"));
     let command = commands.map(fs::canonicalize).find_map(Result::ok);
