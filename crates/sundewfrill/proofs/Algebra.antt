@@ -105,7 +105,7 @@ module _ (κs : Lfts 3) (args : _) (r : _) (exits : _) (post : algebra_call.Post
       lawful : lawful_place item a v s ≡ given tt
       lawful = find_accepts item a v s (rw (← same_item, ← same_a, ← same_v, ← same_s) (sym found.0 ∙ accepted))
 
-      -- no element is over_long, the scratch is enough, and so is the budget
+      -- no element is over-long, the scratch is enough, and so is the budget
       module _ (short : All (Within entry_most) (elements item a v s)) (enough : scratch_least ≤ scratch)
           (paid : (convert_freely item f_text a v s output scratch).steps ≤ args'.1.1.1.1.1.1.1.0) where
         -- the values with the marks between, or the refusal of the first element that has one; 16 where they do not fit
