@@ -7,7 +7,7 @@ use Rattle.paper.specs.Grammar.{pattern_list}
 use Rattle.paper.specs.Patterns.{tests_in}
 use Rattle.codes.specs.declared.Mask.{Mask}
 use Rattle.codes.specs.declared.Plain.{Plain}
-use Rattle.codes.specs.declared.Separator.{Separator}
+use Rattle.std.specs.Prelude.{Option as Maybe}
 use Rattle.codes.specs.declared.Conversion.{Conversion}
 use Rattle.codes.specs.declared.Operand.{Operand}
 use Rattle.codes.specs.declared.Elm.{Elm}
@@ -34,7 +34,7 @@ elm_kind_of (Elm.Convert c) = kind_of c
 pub data Counted (string : Bytes) : Conversion → Type 0 where
   plain_counted : {p : Plain} → Counted string (Conversion.Plain p)
   mask_counted : {m : Mask} → Counted string (Conversion.Mask m)
-  date_counted : {n : ℕ} {s : Separator} → Counted string (Conversion.Date n s)
+  date_counted : {n : ℕ} {s : Maybe ℕ} → Counted string (Conversion.Date n s)
   patterns_counted : {start tests : ℕ} {ps : List Pattern} {rest : Bytes} → pattern_list (drop start string) ≡ some (ps, rest)
       → tests ≡ tests_in ps → Counted string (Conversion.Patterns start tests)
 

@@ -1,7 +1,9 @@
 -- What each case of these enums is in the paper's definitions.
-use Rattle.std.specs.Prelude.{ℕ, List, [], take, drop}
+use Rattle.std.specs.Prelude.{ℕ, List, [], take, drop, None, Some}
+use Rattle.std.specs.Prelude.{Option as Maybe}
 use Rattle.std.proofs.Math.Option.{Option, none, some}
 use Rattle.paper.specs.Bytes.{Bytes}
+use Rattle.paper.specs.Answers.{maybe, maybe_by}
 use Rattle.paper.specs.Numbers as numbers
 use Rattle.paper.specs.Codes as paper
 use Rattle.paper.specs.Grammar.{pattern_list}
@@ -12,7 +14,6 @@ use Rattle.codes.specs.declared.Credit.{Credit}
 use Rattle.codes.specs.declared.Fill.{Fill}
 use Rattle.codes.specs.declared.Mask.{Mask}
 use Rattle.codes.specs.declared.Plain.{Plain}
-use Rattle.codes.specs.declared.Separator.{Separator}
 use Rattle.codes.specs.declared.Class.{Class}
 use Rattle.codes.specs.declared.Test.{Test}
 use Rattle.codes.specs.declared.Conversion.{Conversion}
@@ -40,17 +41,16 @@ operator_of (Operator.Arithmetic a) = arithmetic_of a
 operator_of Operator.Concatenate = numbers.concatenate
 operator_of (Operator.Relate r) = numbers.relate (relation_of r)
 
-unfoldable pub credit_of : Credit → paper.Credit
-credit_of Credit.Absent = paper.no_credit
-credit_of Credit.Credit = paper.credit
-credit_of Credit.Debit = paper.debit
-credit_of Credit.Enclosed = paper.enclosed
-credit_of Credit.Trailing = paper.trailing
-credit_of Credit.Suppressed = paper.suppressed
+unfoldable pub credit_of : Maybe Credit → paper.Credit
+credit_of None = paper.no_credit
+credit_of (Some Credit.Credit) = paper.credit
+credit_of (Some Credit.Debit) = paper.debit
+credit_of (Some Credit.Enclosed) = paper.enclosed
+credit_of (Some Credit.Trailing) = paper.trailing
+credit_of (Some Credit.Suppressed) = paper.suppressed
 
-unfoldable pub fill_of : Fill → Option (ℕ × ℕ)
-fill_of Fill.Absent = none
-fill_of (Fill.Field byte width) = some (byte, width)
+abbrev pub fill_of : Maybe Fill → Option (ℕ × ℕ)
+fill_of filled = maybe_by (λ f. (f.byte, f.width)) filled
 
 unfoldable pub mask_of : Mask → paper.Mask
 mask_of m =
@@ -80,10 +80,6 @@ plain_of Plain.Title = paper.title
 plain_of Plain.Hex = paper.hex
 plain_of Plain.Unhex = paper.unhex
 
-unfoldable pub separator_of : Separator → Option ℕ
-separator_of Separator.Absent = none
-separator_of (Separator.Byte b) = some b
-
 unfoldable pub class_of : Class → paper.Class
 class_of Class.Numeric = paper.numeric
 class_of Class.Alpha = paper.alpha
@@ -106,7 +102,7 @@ patterns_at string start = patterns_read (pattern_list (drop start string))
 unfoldable pub conversion_of : Bytes → Conversion → paper.Conversion
 conversion_of string (Conversion.Plain p) = paper.plain (plain_of p)
 conversion_of string (Conversion.Mask m) = paper.mask (mask_of m)
-conversion_of string (Conversion.Date digits separator) = paper.date digits (separator_of separator)
+conversion_of string (Conversion.Date digits separator) = paper.date digits (maybe separator)
 conversion_of string (Conversion.Patterns start tests) = paper.patterns (patterns_at string start)
 
 unfoldable pub repeat_of : Repeat → paper.Repeat

@@ -32,10 +32,9 @@ pub enum Operator {
     Relate(Relation),
 }
 
-// "{C, D, E, M or N}", or none.
+// "{C, D, E, M or N}"
 #[derive(Clone, Copy)]
 pub enum Credit {
-    Absent,
     Credit,
     Debit,
     Enclosed,
@@ -43,11 +42,11 @@ pub enum Credit {
     Suppressed,
 }
 
-// `(fill num)`: the byte that fills and the width, or no mask.
+// `(fill num)`: the byte that fills and the width.
 #[derive(Clone, Copy)]
-pub enum Fill {
-    Absent,
-    Field { byte: u8, width: u64 },
+pub struct Fill {
+    pub byte: u8,
+    pub width: u64,
 }
 
 // `ML` or `MR`, then `{n{m}}{Z}{,}{C, D, E, M or N}{$}{(fill num)}`.
@@ -58,9 +57,9 @@ pub struct Mask {
     pub scale: u64,
     pub blank_zero: bool,
     pub commas: bool,
-    pub credits: Credit,
+    pub credits: Option<Credit>,
     pub dollar: bool,
-    pub filled: Fill,
+    pub filled: Option<Fill>,
 }
 
 // G, T, L, MC, MX and MY.
@@ -91,13 +90,6 @@ pub enum Plain {
     Unhex,
 }
 
-// D's `{s}`.
-#[derive(Clone, Copy)]
-pub enum Separator {
-    Absent,
-    Byte(u8),
-}
-
 // `N`, `A` or `X`.
 #[derive(Clone, Copy)]
 pub enum Class {
@@ -113,12 +105,12 @@ pub enum Test {
     Literal { start: usize, len: usize },
 }
 
-// A code other than F. Of a P code: where its patterns begin, and the tests in all of them.
+// A code other than F. Of D its `{s}`, if it has one; of a P code: where its patterns begin, and the tests in all of them.
 #[derive(Clone, Copy)]
 pub enum Conversion {
     Plain(Plain),
     Mask(Mask),
-    Date { digits: u64, separator: Separator },
+    Date { digits: u64, separator: Option<u8> },
     Patterns { start: usize, tests: u64 },
 }
 

@@ -25,3 +25,4 @@ pub mod Stricter
 pub mod Symmetry
 pub mod Truths
 pub mod Weights
+pub mod Telling

@@ -11,12 +11,12 @@ use borrow.Author.Tests.{le-leb, lt-leb, leb-true}
 use Rattle.paper.specs.Bytes.{Bytes}
 use Rattle.paper.specs.Sizes.{entry_most}
 use Rattle.paper.specs.Refusals.{Res, given, refused, refuse◌unless◌, answer_of, over_long_entry}
-use Rattle.paper.specs.Answers.{given_of, written}
+use Rattle.paper.specs.Answers.{number_of, told, sized, written}
 use Rattle.paper.specs.Steps.{limited}
 use Rattle.paper.specs.Converting.{fitted}
 use Rattle.paper.proofs.Refusing.{passed, never_held}
-use Rattle.paper.specs.declared.Given.{Given}
-use Rattle.paper.specs.declared.Given.TheVariants.{Length, Refused}
+use Rattle.std.specs.Prelude.{Result, Ok, Err}
+use Rattle.paper.specs.declared.Refusal.{Refusal}
 
 -- the code's limit is the definitions'
 pub entry_limit : entry_most ≡ 1_024
@@ -50,18 +50,18 @@ module _ (most : ℕ) where
   refused_before n l (refused m) h = h
 
 -- what a call answers, and the buffer before and after it
-abbrev pub Answered : Res Bytes → Bytes → Bytes → Given → Type 0
-Answered r held out answer = record { value : answer ≡ given_of r; out_after : out ≡ written held r }
+abbrev pub Answered : Res Bytes → Bytes → Bytes → Result ℕ Refusal → Type 0
+Answered r held out answer = record { value : told answer ≡ sized r; out_after : out ≡ written held r }
 
 -- a refusal leaves the buffer as it was; else the bytes stand in front of what it held
 module _ {r : Res Bytes} where
-  pub refuses_with : {held : Bytes} {n : ℕ} → r ≡ refused n → Answered r held held (Refused n)
-  unfolding given_of written
-  refuses_with e = rw e (record { value = refl; out_after = refl })
+  pub refuses_with : {held : Bytes} (e : Refusal) → r ≡ refused (number_of e) → Answered r held held (Err e)
+  unfolding written
+  refuses_with e p = rw p (record { value = refl; out_after = refl })
 
-  pub gives_bytes : (held bs : Bytes) {out : Bytes} {n : ℕ} → r ≡ given bs → n ≡ length bs → out ≡ bs ++ drop (length bs) held → Answered r held out (Length n)
-  unfolding given_of written
-  gives_bytes held bs e k f = rw e (record { value = ap Length k; out_after = f })
+  pub gives_bytes : (held bs : Bytes) {out : Bytes} {n : ℕ} → r ≡ given bs → n ≡ length bs → out ≡ bs ++ drop (length bs) held → Answered r held out (Ok n)
+  unfolding written
+  gives_bytes held bs e k f = rw e (record { value = ap given k; out_after = f })
 
 -- "then 16": an answer is no longer than the output
 pub fitted_short : (room : ℕ) (r : Res Bytes) → length (answer_of (fitted room r)) ≤ room

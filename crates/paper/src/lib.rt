@@ -1,12 +1,13 @@
 // Document 01 as definitions (specs/), the laws that speak of the definitions alone (proofs/),
-// and, in code, the mark bytes and size limits that every crate above shares.
+// and, in code, what every crate above shares: mark bytes, size limits, refusals, addresses, and what a reader hands back.
 // What document 01's calls answer is stated by specs/; the specs/ of the other crates only turn it into the forms that their code has.
 #![tactic(auto)]
 
 ghost use Rattle.std.specs.Prelude.{◌≡◌};
+ghost use Rattle.paper.specs.Answers.{number_of};
 ghost use Rattle.paper.specs.Program.{drawn};
 
-pub mod refusal;
+use std::fmt;
 
 // Marks as bytes, which a match can name.
 const ATTRIBUTE: u8 = Mark::ATTRIBUTE.byte;
@@ -80,9 +81,56 @@ impl Limit {
     };
 }
 
-// What a call that gives bytes answers: how many, or the refusal's number.
+// Document 01, "Numbers that refusals carry", and document 02: the refusals by name, each with its number.
+#[derive(Clone, Copy, PartialEq, Eq)]
+pub enum Refusal {
+    OverLongRecord = 1,
+    BadByte = 2,
+    BadId = 3,
+    BadAddress = 4,
+    OverLongCode = 5,
+    NotInGrammar = 6,
+    StackFault = 7,
+    ShortScratch = 8,
+    OverLongEntry = 9,
+    OutOfRange = 10,
+    ZeroDivisor = 11,
+    NotConvertible = 12,
+    MarkFromHex = 13,
+    WiderThanMask = 14,
+    OverBudget = 15,
+    ShortOutput = 16,
+    MarkInElement = 17,
+    LeftOverEntries = 18,
+}
+
+impl Refusal {
+    pub fn number(self) -> u64
+        ensures { result ≡ number_of self }
+    {
+        self as u64
+    }
+}
+
+// As the paper writes it: by its number.
+impl fmt::Display for Refusal {
+    fn fmt<W: fmt::Write>(&self, f: &mut fmt::Formatter<W>) -> fmt::Result {
+        let number = self.number();
+        write!(f, "{number}")
+    }
+}
+
+// "An address is (a, v, s)": any three numbers, lawful or not.
 #[derive(Clone, Copy)]
-pub enum Given {
-    Length(usize),
-    Refused(u64),
+pub struct Address {
+    pub a: u64,
+    pub v: u64,
+    pub s: u64,
+}
+
+// What a reader read, and the place after it. It is written out where it is made: so the proofs see its parts.
+#[derive(Clone, Copy)]
+pub struct Read<T> {
+    pub value: T,
+    pub next: usize,
 }
