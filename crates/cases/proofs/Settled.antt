@@ -4,7 +4,6 @@ use contract.Lifetimes.{Lfts}
 use Rattle.cases.proofs.draw.Reads as draw
 use Rattle.cases.proofs.long.Reads as long
 use Rattle.cases.proofs.first_byte.Reads as first_byte
-use Rattle.cases.proofs.place.Reads as place
 use Rattle.cases.proofs.field.Reads as field
 use Rattle.cases.proofs.lines.typed_address.Reads as typed_address
 use Rattle.cases.proofs.lines.number_or.Reads as number_or
@@ -22,9 +21,6 @@ long_settled κs a r r' e e' p q = p ∙ sym q
 
 first_byte_settled : (κs : Lfts 1) → (a : _) (r r' : _) (e e' : _) → first_byte.Post κs a r e → first_byte.Post κs a r' e' → r ≡ r'
 first_byte_settled κs a r r' e e' p q = p ∙ sym q
-
-place_settled : (κs : Lfts 1) → (a : _) (r r' : _) (e e' : _) → place.Post κs a r e → place.Post κs a r' e' → r ≡ r'
-place_settled κs a r r' e e' p q = p.1 ∙ sym q.1
 
 field_settled : (κs : Lfts 1) → (a : _) (r r' : _) (e e' : _) → field.Post κs a r e → field.Post κs a r' e' → r.now ≡ r'.now
 field_settled κs a r r' e e' p q = p ∙ sym q

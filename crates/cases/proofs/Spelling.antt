@@ -1,5 +1,6 @@
 -- What a field spells, piece by piece: a byte as it stands, or what the next two braces hold.
-use Rattle.std.specs.Prelude.{if◌then◌else◌}
+use Rattle.std.specs.Prelude.{if◌then◌else◌, None, Some}
+use Rattle.std.specs.List.{slice_get}
 use Prim.Native.Nat.{ℕ, zero, suc, ◌+◌, ◌-◌, ◌≤◌, ◌<◌}
 use mathlib.Core.Path.{◌≡◌, refl, sym, ap, ap₂, ◌∙◌}
 use mathlib.Core.Bool.{Bool, true, false, true≢false, ◌&&◌, and-false}
@@ -20,26 +21,26 @@ use Rattle.cases.proofs.Laying.{spread, length_laid, behind_inside, spread_next,
 
 -- ---- what stands in braces
 
-repeated_none : (n : ℕ) (x : Bytes) → length x ≡ 0 → repeated n x ≡ (if ltb n 256 then n else 63) ∷ []
+repeated_none : (n : ℕ) (x : Bytes) → None ≡ slice_get x 0 → repeated n x ≡ (if ltb n 256 then n else 63) ∷ []
 unfolding repeated
 repeated_none n [] e = refl
-repeated_none n (x ∷ xs) e = absurd (omega arith)
+repeated_none n (x ∷ xs) e = cc
 
-repeated_first : (n : ℕ) (x : Bytes) → (length x ≡ 0 → ⊥) → repeated n x ≡ replicate n (get_or x 0 0)
+repeated_first : (n : ℕ) (x : Bytes) (b : ℕ) → Some b ≡ slice_get x 0 → repeated n x ≡ replicate n b
 unfolding repeated
-repeated_first n [] e = absurd (e refl)
-repeated_first n (x ∷ xs) e = refl
+repeated_first n [] b e = cc
+repeated_first n (x ∷ xs) b e = cc
 
 module _ (text : Bytes) {n : ℕ} {count x : Bytes} (c : count ≡ piece 42 0 text) (e : n ≡ number count) (f : x ≡ piece 42 1 text) where
   both : repeated n x ≡ braced text
   unfolding braced
   both = ap (λ (k : ℕ). repeated k x) (e ∙ ap number c) ∙ ap (repeated (number (piece 42 0 text))) f
 
-  pub one_byte : {b : ℕ} → length x ≡ 0 → b ≡ (if ltb n 256 then n else 63) → replicate 1 b ≡ braced text
+  pub one_byte : {b : ℕ} → None ≡ slice_get x 0 → b ≡ (if ltb n 256 then n else 63) → replicate 1 b ≡ braced text
   one_byte h g = ap (λ (b : ℕ). b ∷ []) g ∙ sym (repeated_none n x h) ∙ both
 
-  pub many_bytes : (length x ≡ 0 → ⊥) → replicate n (get_or x 0 0) ≡ braced text
-  many_bytes h = sym (repeated_first n x h) ∙ both
+  pub many_bytes : {b : ℕ} → Some b ≡ slice_get x 0 → replicate n b ≡ braced text
+  many_bytes {b} h = sym (repeated_first n x b h) ∙ both
 
 -- ---- a piece and what is behind it
 

@@ -8,7 +8,7 @@ pub mod lines;
 ghost use Rattle.std.specs.Prelude.{◌≡◌, ◌++◌, map, true, ◌+◌, ◌≤◌, ◌<◌, min, length, drop, get_or, replicate, ltb, if◌then◌else◌};
 ghost use Rattle.std.proofs.Math.Option.{none};
 ghost use Rattle.std.specs.Counts.{IsPrefixLen};
-ghost use Rattle.lent.specs.Scan.{upto, piece};
+ghost use Rattle.lent.specs.Scan.{piece};
 ghost use Rattle.cases.specs.Tables.{shown, shown_byte, meant, laid, behind, digit, number, braced, unbraced, spelled};
 
 use paper::Mark;
@@ -16,10 +16,7 @@ use paper::Mark;
 // A text of at most so many bytes is shown: what a case turns on is shorter.
 pub const SHOWN: usize = 64;
 
-// The largest number of 64 bits.
-const MOST: u64 = 18_446_744_073_709_551_615;
-
-// A byte so many times, and where the text goes on behind it.
+// A byte so many times, and where the text goes on behind it. Not a `Read` of a pair, which would leave byte and count unnamed.
 #[derive(Clone, Copy)]
 struct Piece {
     byte: u8,
@@ -34,23 +31,16 @@ fn drawn(b: u8) -> u8
     if b == 0 { b'.' } else { Mark::drawn(b) }
 }
 
-fn least(a: usize, b: usize) -> usize
-    ensures { result ≡ min a b }
-{
-    if a < b { a } else { b }
-}
-
 // A text with its marks and zeros drawn, as much as there is room for; how many bytes.
 pub fn draw(text: &[u8], line: &mut [u8]) -> usize
     ensures prefix_len { IsPrefixLen result line.new }
     ensures value { result ≡ behind line.old 0 (map shown_byte text.now) }
     ensures line_after { line.new ≡ laid line.old 0 (map shown_byte text.now) }
 {
-    let n = least(text.len(), line.len());
-    let mut j = 0;
-    while j < n {
-        line[j] = drawn(text[j]);
-        j += 1;
+    let n = text.len().min(line.len());
+    // An index is kept here: of what is written through a `zip` of `iter_mut` a proof knows the length alone.
+    for (j, &b) in text[..n].iter().enumerate() {
+        line[j] = drawn(b);
     }
     n
 }
@@ -62,48 +52,27 @@ pub fn long(text: &[u8]) -> bool
     SHOWN < text.len()
 }
 
-// By which a case's kind is told; 0 of an empty text.
+// By which a case's kind is told; 0 of an empty text. Not an `Option`: no caller names 0, so that its last arm takes both.
 pub fn first_byte(text: &[u8]) -> u8
     ensures { result ≡ get_or text.now 0 0 }
 {
-    if text.len() == 0 {
-        return 0;
-    }
-    text[0]
-}
-
-// The first place from `from` on with this byte, or the text's end.
-pub fn place(text: &[u8], from: usize, b: u8) -> usize
-    requires { from ≤ length text.now }
-    ensures lower_bound { (from ≤ result) × (result ≤ length text.now) }
-    ensures value { result ≡ from + length (upto b b (drop from text.now)) }
-{
-    lent::first_within(text, from, text.len(), b, b)
+    text.first().copied().unwrap_or(0)
 }
 
 // A field, counted from 0, of a text whose fields are parted by a byte; empty where there is none.
 pub fn field(text: &[u8], number: u64, parted: u8) -> &[u8]
     ensures { result.now ≡ piece parted number text.now }
 {
-    let mut at = 0;
-    let mut k = 0;
-    while k < number {
-        let end = place(text, at, parted);
-        if end == text.len() {
-            return &text[end..];
-        }
-        at = end + 1;
-        k += 1;
-    }
-    let end = place(text, at, parted);
-    &text[at..end]
+    text.split(|&b| b == parted)
+        .nth(number as usize)
+        .unwrap_or(&[])
 }
 
 fn digit(b: u8) -> u64
     ensures { (result ≤ 9) × (result ≡ digit b) }
 {
     match b {
-        b'0'..=b'9' => (b - b'0') as u64,
+        b'0'..=b'9' => u64::from(b - b'0'),
         _ => 0,
     }
 }
@@ -112,26 +81,13 @@ fn digit(b: u8) -> u64
 pub(crate) fn number(text: &[u8]) -> u64
     ensures { result ≡ number text.now }
 {
-    let mut n = 0;
-    let mut at = 0;
-    while at < text.len() {
-        let d = digit(text[at]);
-        if (MOST - d) / 10 < n {
-            return MOST;
-        }
-        n = n * 10 + d;
-        at += 1;
-    }
-    n
+    text.iter().fold(0u64, |n, &b| n.saturating_mul(10).saturating_add(digit(b)))
 }
 
 fn byte_of(n: u64) -> u8
     ensures { result ≡ if ltb n 256 then n else 63 }
 {
-    if n < 256 {
-        return n as u8;
-    }
-    b'?'
+    u8::try_from(n).unwrap_or(b'?')
 }
 
 // What stands in braces: `n*x` is n bytes x, and `n` is the byte n.
@@ -139,18 +95,17 @@ fn in_braces(text: &[u8], next: usize) -> Piece
     ensures { (result.next ≡ next) × (replicate result.count result.byte ≡ braced text.now) }
 {
     let n = number(field(text, 0, b'*'));
-    let x = field(text, 1, b'*');
-    if x.len() == 0 {
-        return Piece {
+    match field(text, 1, b'*').first() {
+        None => Piece {
             byte: byte_of(n),
             count: 1,
             next,
-        };
-    }
-    Piece {
-        byte: x[0],
-        count: n as usize,
-        next,
+        },
+        Some(&byte) => Piece {
+            byte,
+            count: n as usize,
+            next,
+        },
     }
 }
 
@@ -163,7 +118,7 @@ fn next_piece(text: &[u8], at: usize) -> Piece
     let byte = text[at];
     let next = at + 1;
     if byte == b'{' {
-        let end = place(text, next, b'}');
+        let end = lent::place_of(text, next, b'}');
         if end < text.len() {
             return in_braces(&text[next..end], end + 1);
         }
@@ -181,7 +136,7 @@ fn lay(out: &mut [u8], from: usize, count: usize, b: u8) -> usize
     ensures value { result ≡ behind out.old from (replicate count b) }
     ensures out_after { out.new ≡ laid out.old from (replicate count b) }
 {
-    let n = least(count, out.len() - from);
+    let n = count.min(out.len() - from);
     lent::fill(out, from, n, b);
     from + n
 }
@@ -198,6 +153,7 @@ fn raw(b: u8) -> u8
     }
 }
 
+// A flag and no closure: `spelled` is stated by this one definition, of a record's text and of a code string alike.
 fn meant(b: u8, marks: bool) -> u8
     ensures { result ≡ meant marks b }
 {
@@ -211,6 +167,7 @@ pub(crate) fn spelled(text: &[u8], marks: bool, out: &mut [u8]) -> usize
     ensures out_after { out.new ≡ laid out.old 0 (spelled marks text.now) }
 {
     let mut n = 0;
+    // An index is kept here: each piece says where the next one begins.
     let mut at = 0;
     while at < text.len() {
         let piece = next_piece(text, at);

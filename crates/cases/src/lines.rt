@@ -5,17 +5,10 @@ ghost use Rattle.paper.specs.Sizes.{record_most};
 ghost use Rattle.cases.specs.Tables.{in_field, typed_part, number_or, laid, behind, spelled, all_zeros};
 
 use crate::{field, number};
-use paper::Limit;
+use paper::{Address, Limit};
 
 // The longest buffer.
 const ROOM: u64 = Limit::RECORD.most as u64;
-
-#[derive(Clone, Copy)]
-pub struct Address {
-    pub a: u64,
-    pub v: u64,
-    pub s: u64,
-}
 
 // The address that is field 1.
 pub fn typed_address(line: &[u8]) -> Address
@@ -34,7 +27,7 @@ pub fn number_or(line: &[u8], k: u64, usual: u64) -> u64
     ensures { result ≡ number_or usual (in_field k line.now) }
 {
     let text = field(line, k, b'|');
-    if text.len() == 0 {
+    if text.is_empty() {
         return usual;
     }
     number(text)
@@ -45,11 +38,7 @@ pub fn length_or(line: &[u8], k: u64, usual: u64) -> usize
     ensures upper_bound { result ≤ record_most }
     ensures value { result ≡ min (number_or usual (in_field k line.now)) record_most }
 {
-    let n = number_or(line, k, usual);
-    if n < ROOM {
-        return n as usize;
-    }
-    ROOM as usize
+    number_or(line, k, usual).min(ROOM) as usize
 }
 
 // Room for a record that is a byte too long.
@@ -79,12 +68,5 @@ pub fn spelled_field(line: &[u8], k: u64, marks: bool, out: &mut [u8]) -> usize
 pub fn zeros(text: &[u8], from: usize) -> bool
     ensures { result ≡ all_zeros (drop from text.now) }
 {
-    let mut at = from;
-    while at < text.len() {
-        if text[at] != 0 {
-            return false;
-        }
-        at += 1;
-    }
-    true
+    text.iter().skip(from).all(|&b| b == 0)
 }

@@ -6,7 +6,7 @@ use mathlib.Core.List.{[], ◌∷◌, ◌++◌}
 use Prim.Native.Nat.{ℕ, ◌+◌, ◌-◌, ◌≤◌, ◌<◌}
 use native.Mathlib.Omega.{arith}
 use lib.ListN.{length, take, drop, take-append-drop, length-drop, length-append}
-use lib.Seq.{drop-drop, take-add, length-take-le}
+use lib.Seq.{drop-drop, take-add, take_at, drop_at, length-take-le}
 use Rattle.paper.specs.Bytes.{Bytes, any, within}
 use Rattle.lent.specs.Scan.{range, upto, first_place}
 
@@ -33,6 +33,20 @@ module _ (text : Bytes) (from end : ℕ) (order : from ≤ end) where
   pub length_range : end ≤ length text → length (range text from end) ≡ end - from
   unfolding range
   length_range h = length-take-le (end - from) (drop from text) (omega (arith, length-drop from text))
+
+-- n bytes off the front
+module _ (text : Bytes) (at to n : ℕ) (order : at ≤ to) (inside : to ≤ length text) where
+  pub block_parts : {block rest : Bytes} → range text at to ≡ block ++ rest → length block ≡ n
+      → (at + n ≤ to) × (block ≡ range text at (at + n)) × (rest ≡ range text (at + n) to)
+  block_parts {block} {rest} e l =
+      let size = length_range text at to order inside in
+      let fits : at + n ≤ to = omega (arith, ap length e, length-append block rest) in
+      let long : length (range text at (at + n)) ≡ n = omega (arith, length_range text at (at + n) (omega arith) (omega arith)) in
+      let same : block ++ rest ≡ range text at (at + n) ++ range text (at + n) to = sym e ∙ range_parts text at (at + n) (omega arith) to fits in (
+        fits,
+        sym (take_at block rest n l) ∙ ap (take n) same ∙ take_at (range text at (at + n)) (range text (at + n) to) n long,
+        sym (drop_at block rest n l) ∙ ap (drop n) same ∙ drop_at (range text at (at + n)) (range text (at + n) to) n long,
+      )
 
 -- ---- the first byte within low .. high
 

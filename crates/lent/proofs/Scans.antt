@@ -1,5 +1,5 @@
 -- What one turn of a scan does, over plain lists: what the rest gives from the next place is what it gives from this one.
-use Rattle.std.specs.Prelude.{if◌then◌else◌}
+use Rattle.std.specs.Prelude.{if◌then◌else◌, Option}
 use mathlib.Core.Path.{◌≡◌, refl, sym, ap, ◌∙◌}
 use mathlib.Core.Bool.{Bool, true, false, ◌||◌, or_assoc, or-false}
 use mathlib.Core.List.{[], ◌∷◌}
@@ -9,6 +9,9 @@ use native.Mathlib.Numerals.{add-one}
 use native.Mathlib.Omega.{arith}
 use lib.ListN.{length, take, drop, get_or, length-drop, drop_of_length-le}
 use lib.Seq.{drop-cons, take_all}
+use Rattle.std.specs.List.{AllWithin, HoldsAt}
+use Rattle.std.specs.Option.{MatchOption, unwrap_or}
+use Rattle.std.proofs.lemmas.Iterator.{index_from_first}
 use Rattle.paper.specs.Bytes.{Bytes, any, within}
 use Rattle.lent.specs.Scan.{range, upto}
 
@@ -61,14 +64,27 @@ module _ (low high : ℕ) (item : Bytes) (to : ℕ) (inside : to ≤ length item
   pub upto_hit : (at : ℕ) → at < to → within low high (get_or item at 0) ≡ true → length (upto low high (range item at to)) ≡ 0
   upto_hit at h t = ap length (rw t at (upto_here at h))
 
-  pub upto_more : (at : ℕ) → at < to → within low high (get_or item at 0) ≡ false → at + length (upto low high (range item at to)) ≡ at + 1 + length (upto low high (range item (at + 1) to))
-  upto_more at h t = omega (arith, ap length (rw t at (upto_here at h)))
-
   pub upto_none : (at : ℕ) → to ≤ at → length (upto low high (range item at to)) ≡ 0
   unfolding upto range
   upto_none at h =
       let e : to - at ≡ 0 = omega arith in
       ap (λ (n : ℕ). length (upto low high (take n (drop at item)))) e
+
+-- what a search that gives the first such byte's position tells
+module _ (low high : ℕ) where
+  abbrev pub Hit : ℕ → Type 0
+  Hit b = within low high b ≡ true
+
+  abbrev pub Miss : ℕ → Type 0
+  Miss b = within low high b ≡ false
+
+  pub upto_first : (bs : Bytes) (r : Option ℕ)
+      → MatchOption r (AllWithin Miss bs 0 (length bs)) (λ i. (i < length bs) × HoldsAt Hit bs i × AllWithin Miss bs 0 i)
+      → length (upto low high bs) ≡ unwrap_or r (length bs)
+  unfolding upto
+  upto_first =
+      let count : Bytes → ℕ = λ bs. length (upto low high bs) in
+      index_from_first count Hit Miss refl (λ b bs h. rw h) (λ b bs h. rw h (sym (add-one (count bs))))
 
 pub length_upto : (low high : ℕ) (bs : Bytes) → length (upto low high bs) ≤ length bs
 unfolding upto

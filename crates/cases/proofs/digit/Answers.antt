@@ -7,7 +7,7 @@ use Rattle.cases.proofs.digit.Goals as goal
 
 pub returns-in-48-to-57 : goal.returns-in-48-to-57
 unfolding digit is_digit digit_value
-returns-in-48-to-57 c = (omega arith, rw (within_yes 48 57 _ c.in-48-to-57.if-b-lt48-own.false c.in-48-to-57.if-b-lt58-own.true))
+returns-in-48-to-57 c = (omega arith, rw (within_yes 48 57 _ c.in-48-to-57.if-b-lt48-own.false c.in-48-to-57.if-b-lt58-own.true) c.from.ensures)
 
 pub returns-in_default : goal.returns-in_default
 unfolding digit is_digit digit_value

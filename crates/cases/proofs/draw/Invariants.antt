@@ -7,6 +7,3 @@ use Rattle.cases.proofs.draw.Given as goal
 
 abbrev pub invariant-loop-j : goal.invariant-loop-j
 invariant-loop-j l = Laying l.initial.line 0 (take (length l.initial.line - 0) (map shown_byte l.text)) l.n 0 l.j l.line
-
-abbrev pub decreases-loop-j : goal.decreases-loop-j
-decreases-loop-j l = l.n - l.j

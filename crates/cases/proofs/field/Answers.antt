@@ -1,44 +1,16 @@
--- `cases::field` meets its contract: the fields before it are passed one by one.
-use native.Mathlib.Nat.{sub-zero}
-use native.Mathlib.Omega.{arith}
-use Rattle.cases.proofs.Fields.{field_here, field_later, field_missing}
+-- `cases::field` meets its contract: the parts that the library gives are those of the split.
+use lib.Dec.{eqb}
+use mathlib.Core.Path.{refl, ap, ◌∙◌}
+use Rattle.std.proofs.Common.{rules, tests}
+use Rattle.std.proofs.lemmas.Iterator.Consumers.{nth_from_yields_List}
+use Rattle.std.proofs.lemmas.Iterator.Splits.{YieldsList-from_slice_split}
+use Rattle.cases.proofs.Fields.{field_of}
 use Rattle.cases.proofs.field.Goals as goal
-
-pub loop-k-init : goal.loop-k-init
-loop-k-init c = (omega arith, omega arith, rw sub-zero)
-
-pub slice_bounds-result-count : goal.slice_bounds-result-count
-slice_bounds-result-count c = omega (arith, c.place-end.ensures)
-
-pub slice_bounds-result-start : goal.slice_bounds-result-start
-slice_bounds-result-start c = omega (arith, c.place-end.ensures)
-
-pub slice_bounds-result-end : goal.slice_bounds-result-end
-slice_bounds-result-end c = omega (arith, c.place-end.ensures)
-
-pub returns-then-end-text : goal.returns-then-end-text
-returns-then-end-text c =
-    let l = c.loop-k in
-    field_missing _ _ _ l.at l.k l.invariant.0 l.invariant.2 c.place-end.ensures.value c.loop-k-test.true (omega (arith, c.if-end-text.true))
-
-pub overflow_add-at : goal.overflow_add-at
-overflow_add-at c = omega (arith, c.place-end.ensures)
-
-pub loop-k-preserved : goal.loop-k-preserved
-loop-k-preserved c =
-    let l = c.loop-k in
-    let later = field_later _ _ _ l.at l.k l.invariant.0 l.invariant.2 c.place-end.ensures.value c.loop-k-test.true in
-    (omega (arith, c.place-end.ensures), omega arith, later)
-
-pub slice_bounds-result-count-2 : goal.slice_bounds-result-count-2
-slice_bounds-result-count-2 c = omega (arith, c.place-end-2.ensures)
-
-pub slice_bounds-result-start-2 : goal.slice_bounds-result-start-2
-slice_bounds-result-start-2 c = omega (arith, c.place-end-2.ensures)
-
-pub slice_bounds-result-end-2 : goal.slice_bounds-result-end-2
-slice_bounds-result-end-2 c = omega (arith, c.place-end-2.ensures)
 
 pub returns : goal.returns
 returns c =
-    let l = c.loop-k in field_here _ _ _ l.at l.k l.invariant.0 l.invariant.2 c.place-end-2.ensures.value c.loop-k-test.false
+    let a = c.args in
+    let s = c.split.ensures in
+    let kth = nth_from_yields_List c.nth.result _ a.number c.nth.ensures.ran
+    (YieldsList-from_slice_split _ (λ b. eqb b a.parted) a.text.now s.rest s.done s.closure (λ x b q k. search (rules, tests))) in
+    ap (λ x. x.now) c.unwrap_or.ensures ∙ field_of a.parted a.number a.text.now c.nth.result _ refl kth

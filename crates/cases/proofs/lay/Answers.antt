@@ -5,4 +5,6 @@ use Rattle.cases.proofs.lay.Goals as goal
 
 pub returns : goal.returns
 returns c =
-    let n = c.before.before.before.before in let r = filled c.args.out.now c.args.from c.args.count c.args.b c.requires c.least-n.ensures in record { value = r.0; out_after = c.fill.ensures ∙ r.1 }
+    let a = c.args in
+    let r = filled a.out.now a.from a.count a.b c.requires c.min-n.ensures in
+    record { value = r.0; out_after = c.fill.ensures ∙ r.1 }

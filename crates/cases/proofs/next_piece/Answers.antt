@@ -5,11 +5,11 @@ use Rattle.cases.proofs.next_piece.Goals as goal
 
 pub returns-then-end-text : goal.returns-then-end-text
 returns-then-end-text c =
-    let end = c.place-end.ensures in let r = c.in_braces.ensures in record { at_lt_next = (omega (arith, end, r), omega (arith, end, r, c.if-end-text.true)); text_value = in_braces c.args.text.now c.args.at c.requires c.place-end.ensures.value c.if-byte-eq123.true c.if-end-text.true _ c.in_braces.result.count c.in_braces.result.byte c.in_braces.ensures.0 c.in_braces.ensures.1 }
+    let end = c.place_of-end.ensures in let r = c.in_braces.ensures in record { at_lt_next = (omega (arith, end, r), omega (arith, end, r, c.if-end-text.true)); text_value = in_braces c.args.text.now c.args.at c.requires c.place_of-end.ensures.value c.if-byte-eq123.true c.if-end-text.true _ c.in_braces.result.count c.in_braces.result.byte c.in_braces.ensures.0 c.in_braces.ensures.1 }
 
 pub returns-else-end-text : goal.returns-else-end-text
 returns-else-end-text c =
-    let h = c.requires in record { at_lt_next = (omega arith, omega (arith, h)); text_value = no_closing _ _ h c.place-end.ensures.value c.if-end-text.false }
+    let h = c.requires in record { at_lt_next = (omega arith, omega (arith, h)); text_value = no_closing _ _ h c.place_of-end.ensures.value c.if-end-text.false }
 
 pub returns-else-byte-eq123 : goal.returns-else-byte-eq123
 returns-else-byte-eq123 c =

@@ -1,15 +1,14 @@
--- `lent::fill` meets its contract: each turn lays one byte more of `replicate count b`.
+-- `lent::fill` meets its contract: the part between is `count` times the byte.
+use mathlib.Core.Path.{◌≡◌}
 use native.Mathlib.Omega.{arith}
-use mathlib.Core.Path.{sym}
-use lib.ListN.{length-replicate, get_or-replicate}
-use Rattle.lent.proofs.Laying.{laying_none, laying_more, laying_all}
+use Prim.Native.Nat.{◌+◌, ◌-◌}
+use lib.ListN.{replicate, length-replicate}
+use Rattle.lent.proofs.Laws.{over_part, length_from}
 use Rattle.lent.proofs.fill.Goals as goal
 
-pub loop-j-init : goal.loop-j-init
-loop-j-init c = laying_none _ _ _ _ 0 (length-replicate _ _) c.requires (omega arith)
-
-pub loop-j-preserved : goal.loop-j-preserved
-loop-j-preserved c = laying_more c.loop-j.invariant _ c.loop-j-test.true (sym (get_or-replicate _ _ _ 0 c.loop-j-test.true))
-
 pub returns : goal.returns
-returns c = laying_all c.loop-j.invariant (omega arith) c.loop-j-test.false
+returns c =
+    let a = c.args in
+    let n : a.at + a.count - a.at ≡ a.count = omega arith in
+    rw (n, c.fill.ensures.after (λ y e. e), n, length_from a.buf.now a.at a.count c.requires)
+    (over_part a.buf.now a.at a.count (replicate a.count a.b) (length-replicate a.count a.b))

@@ -1,28 +1,19 @@
--- `lent::first_within` meets its contract: from place to place the answer stays the same, until a byte within the two stops it.
-use mathlib.Core.Path.{refl, ◌∙◌}
-use native.Mathlib.Omega.{arith}
-use Rattle.lent.proofs.Scans.{upto_hit, upto_more, upto_none}
+-- `lent::first_within` meets its contract: the position of the first such byte among those between, or their number.
+use Prim.Native.Nat.{ℕ, ◌+◌}
+use mathlib.Core.Path.{sym, ap, ◌∙◌}
+use Rattle.std.proofs.lemmas.Iterator.{YieldsList-from_slice, IsFirst-from_position}
+use Rattle.std.proofs.Common.{rules, tests}
+use Rattle.lent.specs.Scan.{range}
+use Rattle.lent.proofs.Scans.{Hit, Miss, upto_first}
+use Rattle.lent.proofs.Blocks.{length_range}
 use Rattle.lent.proofs.first_within.Goals as goal
 
-pub loop-at-init : goal.loop-at-init
-loop-at-init c = (omega arith, omega arith, refl)
-
-pub returns-then-low-b : goal.returns-then-low-b
-returns-then-low-b c =
-    let a = c.args in
-    let at = c.loop-at.at in
-    let hit = upto_hit a.low a.high a.text.now a.to c.requires.1 at c.loop-at-test.true c.if-low-b.true in
-    omega arith
-
-pub loop-at-preserved : goal.loop-at-preserved
-loop-at-preserved c =
-    let a = c.args in
-    let at = c.loop-at.at in
-    let more = upto_more a.low a.high a.text.now a.to c.requires.1 at c.loop-at-test.true c.if-low-b.false in
-    (omega arith, omega arith, c.loop-at.invariant.2 ∙ more)
-
 pub returns : goal.returns
+unfolding range
 returns c =
     let a = c.args in
-    let none = upto_none a.low a.high a.text.now a.to c.requires.1 c.loop-at.at c.loop-at-test.false in
-    omega arith
+    let between = YieldsList-from_slice (range a.text.now a.from a.to) c.iter.ensures.rest in
+    let first = IsFirst-from_position _ _ c.position.result (Hit a.low a.high) (Miss a.low a.high) c.position.ensures.ran between
+    (λ x q k. search (rules, tests)) (λ x q k. search (rules, tests)) in
+    let n = length_range a.text.now a.from a.to c.requires.0 c.requires.1 in
+    ap (λ (k : ℕ). a.from + k) (c.unwrap_or-passed.ensures ∙ sym (rw n at (upto_first a.low a.high _ c.position.result first)))

@@ -3,21 +3,23 @@ use Prim.Native.Nat.{◌+◌}
 use mathlib.Core.Path.{refl, sym, ◌∙◌}
 use native.Mathlib.Omega.{arith}
 use Rattle.lent.specs.Scan.{range}
-use Rattle.lent.proofs.Blocks.{first_clear}
+use Rattle.lent.proofs.Blocks.{block_parts, first_clear}
 use Rattle.lent.proofs.pass_blocks.Goals as goal
 
-pub loop-at-init : goal.loop-at-init
-loop-at-init c = (omega arith, refl)
-
-pub returns-then-some_within : goal.returns-then-some_within
-returns-then-some_within c = record { upper_bound = c.loop-at.invariant.0; to_value = c.loop-at.invariant.1 }
-
-pub loop-at-preserved : goal.loop-at-preserved
+pub loop-block-init : goal.loop-block-init
 unfolding range
-loop-at-preserved c =
-    let a = c.args in
-    let l = c.loop-at in
-    (omega arith, l.invariant.1 ∙ first_clear a.low a.high a.text.now l.at (l.at + 16) a.to (omega arith) (omega arith) c.requires.1 (sym c.some_within.ensures ∙ c.if-some_within.false))
+loop-block-init c = record { inside = omega arith; size = cc; rest = cc; same = refl }
 
-pub returns : goal.returns
-returns c = record { upper_bound = c.loop-at.invariant.0; to_value = c.loop-at.invariant.1 }
+pub loop-block-preserved : goal.loop-block-preserved
+loop-block-preserved c =
+    let a = c.args in
+    let l = c.loop-block in
+    let turn = c.in-Some.ensures.steps in
+    let parts = block_parts a.text.now l.at a.to 16 l.invariant.inside c.requires.1 (sym l.invariant.rest ∙ turn.1.0) (turn.1.1 ∙ l.invariant.size) in
+    let clear = sym (rw parts.1 at c.some_within.ensures) ∙ c.if-some_within.false in
+    record {
+      inside = parts.0;
+      size = turn.0 ∙ l.invariant.size;
+      rest = parts.2;
+      same = l.invariant.same ∙ first_clear a.low a.high a.text.now l.at (l.at + 16) a.to (omega arith) parts.0 c.requires.1 clear;
+    }
