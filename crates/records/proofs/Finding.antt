@@ -1,22 +1,20 @@
 -- Finding behind its tests, and the part that is handed back.
-use mathlib.Core.Path.{◌≡◌, refl, sym, ap}
-use mathlib.Core.List.{[], ◌∷◌}
-use mathlib.Core.Logic.{⊎_elim}
+use Rattle.std.specs.Prelude.{Result, Ok, Err, None}
+use Rattle.std.specs.Result.{result_unwrap_or}
+use Rattle.std.specs.Prelude.{Option as Maybe}
+use mathlib.Core.Path.{◌≡◌, refl, sym}
 use mathlib.Core.Option.{Option, none, some}
-use Prim.Native.Nat.{ℕ, ◌+◌, ◌-◌, ◌≤◌}
-use native.Mathlib.Omega.{arith}
+use Prim.Native.Nat.{ℕ, ◌+◌, ◌≤◌}
 use lib.ListN.{length, take, drop}
-use types.Run.{OneOf}
-use denote.Enum.Declared.{tag_of}
 use Rattle.paper.specs.Bytes.{Bytes}
-use Rattle.paper.specs.Refusals.{Res, given, refused, ◌>>◌, refusal_of}
+use Rattle.paper.specs.Refusals.{Res, given, refused, ◌>>◌}
 use Rattle.paper.specs.Records.{Part, path, place, reads, text_or_empty, lawful_record, lawful_address, find, extract}
-use Rattle.records.specs.Found.{lawful_find, found_of, Within, at, no_part, no_answer, found_bytes, found_there}
-use Rattle.records.specs.declared.Found.{Found}
-use Rattle.records.specs.declared.Found.TheVariants.{At, Missing, Refused}
-use Rattle.records.specs.contracts.Found.{the_type}
+use Rattle.paper.specs.Answers.{told}
+use Rattle.paper.specs.declared.Refusal.{Refusal}
+use Rattle.paper.proofs.Refusing.{never_given}
+use Rattle.records.specs.Found.{lawful_find, found_of, part_of, part_in, Within, part_bytes}
+use Rattle.records.specs.declared.Span.{Span}
 use Rattle.paper.proofs.Splitting.{found_is_own, found_ends}
-use Rattle.records.proofs.Refusing.{passed, stopped, told_find}
 
 pub then_then : {A : Type 0} (x y : Res (Unit {0})) (z : Res A) → (x >> y) >> z ≡ x >> (y >> z)
 then_then (given t) y z = refl
@@ -27,12 +25,18 @@ module _ (item : Bytes) (a v s : ℕ) where
   unfolding find lawful_find
   find_then = sym (then_then (lawful_record item) (lawful_address a v s) (given (place item a v s)))
 
-  pub find_refused : (r : ℕ) → r ≡ refusal_of (lawful_find item a v s) → (r ≡ 0 → ⊥) → Refused r ≡ found_of (find item a v s)
-  unfolding found_of
-  find_refused r e nz = rw (find_then, stopped (told_find item a v s) r e nz)
+  pub find_refused : {n : ℕ} → refused n ≡ lawful_find item a v s → refused n ≡ found_of (find item a v s)
+  find_refused e = rw (find_then, sym e)
 
-  pub find_place : (r : ℕ) → r ≡ refusal_of (lawful_find item a v s) → r ≡ 0 → found_of (given (place item a v s)) ≡ found_of (find item a v s)
-  find_place r e z = rw (find_then, passed (told_find item a v s) r e z)
+  pub find_place : given tt ≡ lawful_find item a v s → given (part_of (place item a v s)) ≡ found_of (find item a v s)
+  find_place e = rw (find_then, sym e)
+
+-- nothing is cut where it is refused
+pub part_found : (r : Result (Maybe Span) Refusal) (x : Res (Option Part)) → told r ≡ found_of x → result_unwrap_or r None ≡ part_in x
+part_found (Ok o) (given p) e = cc
+part_found (Ok o) (refused n) e = never_given (sym e)
+part_found (Err r) (given p) e = never_given e
+part_found (Err r) (refused n) e = refl
 
 -- What is found lies in the record, and its bytes are those that stand there.
 pub data Inside (item : Bytes) : Res (Option Part) → Type 0 where
@@ -64,44 +68,14 @@ module _ (item : Bytes) (a v s : ℕ) where
       on_option none = refl
       on_option (some p) = refl
 
--- so the answer's place lies in the record, and the bytes there are the part's
-pub inside_within : {item : Bytes} {x : Res (Option Part)} → Inside item x → Within (length item) (found_of x)
-unfolding found_of
-inside_within (found p h t) = at h
-inside_within missing = no_part
-inside_within (refused_so n) = no_answer
+-- so the part lies in the record, and the bytes there are the part's
+pub inside_within : {item : Bytes} {x : Res (Option Part)} → Inside item x → Within (length item) (part_in x)
+inside_within (found p h t) = h
+inside_within missing = tt
+inside_within (refused_so n) = tt
 
-pub inside_bytes : {item : Bytes} {x : Res (Option Part)} → Inside item x → found_bytes item (found_of x) ≡ extract x
-unfolding found_of found_bytes extract
+pub inside_bytes : {item : Bytes} {x : Res (Option Part)} → Inside item x → part_bytes item (part_in x) ≡ extract x
+unfolding extract
 inside_bytes (found p h t) = sym t
 inside_bytes missing = refl
 inside_bytes (refused_so n) = refl
-
--- ---- cutting the part out
-
-pub within_end : {size : ℕ} {f : Found} (start len : ℕ) → Within size f → f ≡ At start len → start + len ≤ size
-within_end start len (at {start = b} {len = n} h) e =
-    let eb : b ≡ start = cc in
-    let en : n ≡ len = cc in
-    omega arith
-within_end start len no_part e = let z : ◌≡◌ {A = ℕ} 0 1 = cc in absurd (omega arith)
-within_end start len no_answer e = let z : ◌≡◌ {A = ℕ} 0 1 = cc in absurd (omega arith)
-
--- and where it stands
-pub cut_at : (item : Bytes) (p : ℕ × ℕ) (f : Found) (start len : ℕ) → f ≡ At start len → (take (start + len - start) (drop start item) ≡ found_bytes item f) × ((p.0, start + p.1) ≡ found_there p f)
-unfolding found_bytes found_there
-cut_at item p f start len e =
-    let n : start + len - start ≡ len = omega arith in
-    (rw (e, n), rw e)
-
-begins : (p : ℕ × ℕ) → ◌≡◌ {A = ℕ × ℕ} (p.0, 0 + p.1) p
-begins p =
-    let z : 0 + p.1 ≡ p.1 = omega arith in
-    ap (λ (k : ℕ). (p.0, k)) z
-
--- any other answer cuts an empty part at the beginning
-pub cut_none : (item : Bytes) (p : ℕ × ℕ) (f : Found) → OneOf (1 ∷ 2 ∷ []) (tag_of the_type f) → ([] ≡ found_bytes item f) × ((p.0, 0 + p.1) ≡ found_there p f)
-unfolding found_bytes found_there
-cut_none item p (At start len) k = absurd (⊎_elim (λ z. omega arith) (λ z. omega arith) k)
-cut_none item p Missing k = (refl, begins p)
-cut_none item p (Refused n) k = (refl, begins p)

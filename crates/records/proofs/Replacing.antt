@@ -2,29 +2,26 @@
 use mathlib.Core.Path.{◌≡◌, refl, sym, ap, ◌∙◌}
 use mathlib.Core.Bool.{Bool, true, false, true≢false, ◌&&◌}
 use mathlib.Core.List.{List, [], ◌∷◌}
-use Prim.Native.Nat.{ℕ, zero, suc, ◌-◌, ◌≤◌, ◌<◌}
+use Prim.Native.Nat.{ℕ, zero, suc, ◌-◌, ◌≤◌}
 use native.Mathlib.Omega.{arith}
 use lib.ListN.{length, replicate}
 use lib.Dec.{leb, ltb, eqb, eqb-suc-zero}
-use borrow.Author.Tests.{leb-true, leb-false, ne_eqb, le-leb, lt-leb, ltb-false, lt-ltb, le-ltb}
+use borrow.Author.Tests.{leb-true, leb-false, ne_eqb, ltb-false, lt-ltb, le-ltb}
 use Rattle.paper.specs.Bytes.{Bytes, any, buffer}
 use Rattle.paper.specs.Sizes.{attribute_mark, value_mark, subvalue_mark, is_mark, is_inner_mark, is_outer_mark, record_most, id_most, entry_most, attribute_most, position_most}
-use Rattle.paper.specs.Refusals.{Res, given, refused, ◌>>◌, refuse◌unless◌, refuse◌when◌, refusal_of, answer_of}
-use Rattle.paper.specs.Answers.{given_of}
-use Rattle.paper.specs.declared.Given.TheVariants.{Length}
+use Rattle.paper.specs.Refusals.{Res, given, refused, ◌>>◌, refuse◌unless◌, refuse◌when◌, answer_of}
 use Rattle.paper.specs.Records.{first_of, split, alter, Turn, path, id_of, lawful_id, lawful_record, lawful_address, replaced, replace}
 use Rattle.records.specs.Found.{lawful_find}
 use Rattle.records.specs.Scan.{spot, changed, changed_length}
-use Rattle.records.specs.Planned.{lawful_new, Small, sized_plan, planned, plan_answer}
+use Rattle.records.specs.Planned.{lawful_new, Small, sized_plan, planned}
 use Rattle.records.specs.declared.Spot.{Spot}
 use Rattle.records.specs.declared.Plan.{Plan}
-use Rattle.records.specs.declared.Plan.TheVariants.{Ready, Refused}
 use Rattle.paper.proofs.Truths.{both, unless_passed, when_passed}
 use Rattle.paper.proofs.Predicates.{none_of, and_all, all_map}
 use Rattle.paper.proofs.Replacing.{Down, turn, path_down, split_replaced, is_replaced}
 use Rattle.paper.proofs.Splitting.{any_without, without_any}
 use Rattle.records.proofs.Spots.{Lies, spot_lies, length_changed, attribute_turns, path_turns, replaced_spot}
-use Rattle.records.proofs.Refusing.{Told, told_unless, told_when, told_then, passed, stopped, told_find}
+use Rattle.paper.proofs.Refusing.{never_given}
 use Rattle.records.proofs.Finding.{then_then}
 
 -- ---- a test that was passed
@@ -138,77 +135,56 @@ module _ (item : Bytes) (a v s : ℕ) (new : Bytes) (room : ℕ) where
   unfolding replace lawful_find
   refused_tests n e = sym (then_then (lawful_record item) (lawful_address a v s) _) ∙ rw e
 
-told_new : (new : Bytes) (a : ℕ) → Told (lawful_new new a)
-unfolding lawful_new
-told_new new a = told_then (told_unless 8 (leb (length new) entry_most)) (told_then (told_when 16 (any is_mark new)) (told_when 2 (eqb a 0 && ltb id_most (length new))))
-
--- ---- the new bytes
-
-module _ (new : Bytes) (a : ℕ) where
-  pub long_element : entry_most < length new → 9 ≡ refusal_of (lawful_new new a)
-  unfolding lawful_new
-  long_element h = rw (lt-leb (length new) entry_most h)
-
-  pub tested_element : (t u : Bool) → length new ≤ entry_most → t ≡ any is_mark new → u ≡ eqb a 0 && ltb id_most (length new) → refusal_of ((refuse 17 when t) >> (refuse 3 when u)) ≡ refusal_of (lawful_new new a)
-  unfolding lawful_new
-  tested_element t u h et eu = rw (le-leb (length new) entry_most h, et, eu)
-
 -- ---- the result
 
 planned_fit : (p : Spot) (result : Bytes) (room : ℕ) (t u : Bool) → leb (length result) record_most ≡ t → leb (length result) room ≡ u → planned p (fit result room) ≡ sized_plan p (length result) room
-unfolding planned fit sized_plan
+unfolding fit
 planned_fit p result room true true et eu = rw (et, eu)
 planned_fit p result room true false et eu = rw (et, eu)
 planned_fit p result room false u et eu = rw et
 
 module _ (item : Bytes) (a v s : ℕ) (new : Bytes) (room : ℕ) where
-  pub plan_refused : (r : ℕ) → r ≡ refusal_of (lawful_find item a v s) → (r ≡ 0 → ⊥) → Refused r ≡ planned (spot item a v s) (replace item a v s new room)
-  unfolding planned
-  plan_refused r e nz = rw (refused_tests item a v s new room r (stopped (told_find item a v s) r e nz))
+  pub plan_refused : {n : ℕ} → refused n ≡ lawful_find item a v s → refused n ≡ planned (spot item a v s) (replace item a v s new room)
+  plan_refused e = rw (refused_tests item a v s new room _ (sym e))
 
-  module _ (r : ℕ) (e : r ≡ refusal_of (lawful_find item a v s)) (z : r ≡ 0) (q : ℕ) (eq : q ≡ refusal_of (lawful_new new a)) where
-    pub plan_refused_new : (q ≡ 0 → ⊥) → Refused q ≡ planned (spot item a v s) (replace item a v s new room)
-    unfolding planned
-    plan_refused_new nz = rw (replace_tests item a v s new room (passed (told_find item a v s) r e z), stopped (told_new new a) q eq nz)
+  module _ (lawful_item : given tt ≡ lawful_find item a v s) where
+    pub plan_refused_new : {n : ℕ} → refused n ≡ lawful_new new a → refused n ≡ planned (spot item a v s) (replace item a v s new room)
+    plan_refused_new e = rw (replace_tests item a v s new room (sym lawful_item), sym e)
 
-    pub plan_sized : q ≡ 0 → (total : ℕ) → total ≡ changed_length (length item) (spot item a v s) (length new) → sized_plan (spot item a v s) total room ≡ planned (spot item a v s) (replace item a v s new room)
-    plan_sized zq total et =
-        let p = spot item a v s in
-        let n : total ≡ length (result item a v s new room) = et ∙ sym (length_changed item p new (omega (arith, spot_lies item a v s))) ∙ ap length (sym (replaced_spot item a v s new)) in
-        rw (replace_tests item a v s new room (passed (told_find item a v s) r e z), passed (told_new new a) q eq zq, n) (sym (planned_fit p (result item a v s new room) room _ _ refl refl))
+    module _ (lawful_element : given tt ≡ lawful_new new a) where
+      pub plan_sized : (total : ℕ) → total ≡ changed_length (length item) (spot item a v s) (length new) → sized_plan (spot item a v s) total room ≡ planned (spot item a v s) (replace item a v s new room)
+      plan_sized total et =
+          let p = spot item a v s in
+          let n : total ≡ length (result item a v s new room) = et ∙ sym (length_changed item p new (omega (arith, spot_lies item a v s))) ∙ ap length (sym (replaced_spot item a v s new)) in
+          rw (replace_tests item a v s new room (sym lawful_item), sym lawful_element, n) (sym (planned_fit p (result item a v s new room) room _ _ refl refl))
 
-    pub small_spot : q ≡ 0 → Small (length item) (spot item a v s) (length new)
-    unfolding lawful_new entry_most
-    small_spot zq =
-        let l = lawful item a v s (passed (told_find item a v s) r e z) in
-        let n = then_given (refuse 9 unless leb (length new) entry_most) _ tt (passed (told_new new a) q eq zq) in
-        let few = leb-true (length new) entry_most (unless_passed 9 _ n.0) in
-        let lies = spot_lies item a v s in
-        record { ordered = lies.ordered; inside = lies.inside; short = l.short; few = omega arith; attributes = omega arith; values = omega arith; subvalues = omega arith }
+      pub small_spot : Small (length item) (spot item a v s) (length new)
+      unfolding lawful_new entry_most
+      small_spot =
+          let l = lawful item a v s (sym lawful_item) in
+          let n = then_given (refuse 9 unless leb (length new) entry_most) _ tt (sym lawful_element) in
+          let few = leb-true (length new) entry_most (unless_passed 9 _ n.0) in
+          let lies = spot_lies item a v s in
+          record { ordered = lies.ordered; inside = lies.inside; short = l.short; few = omega arith; attributes = omega arith; values = omega arith; subvalues = omega arith }
 
 -- ---- what a plan says of replacing
 
-plan_of : (p q : Spot) (total : ℕ) (x : Res Bytes) → Ready q total ≡ planned p x → (q ≡ p) × (x ≡ given (answer_of x)) × (total ≡ length (answer_of x))
-unfolding planned
-plan_of p q total (given bs) e = (cc, refl, cc)
-plan_of p q total (refused n) e = let z : ◌≡◌ {A = ℕ} 0 1 = cc in absurd (omega arith)
-
-pub answered : (p : Spot) (q : Plan) (x : Res Bytes) → q ≡ planned p x → plan_answer q ≡ given_of x
-unfolding planned given_of
-answered p q (given bs) e = ap plan_answer e
-answered p q (refused n) e = ap plan_answer e
+plan_of : (p q : Spot) (total : ℕ) (x : Res Bytes) → given (record { spot = q; total = total }) ≡ planned p x → (q ≡ p) × (x ≡ given (answer_of x)) × (total ≡ length (answer_of x))
+plan_of p q total (given bs) e =
+    let same : ◌≡◌ {A = Plan} (record { spot = q; total = total }) (record { spot = p; total = length bs }) = cc in
+    (ap (λ (x : Plan). x.spot) same, refl, ap (λ (x : Plan). x.total) same)
+plan_of p q total (refused n) e = never_given (sym e)
 
 -- a refusal leaves zeros throughout
-pub zeros_answer : (p : Spot) (n size : ℕ) (x : Res Bytes) → Refused n ≡ planned p x → replicate size 0 ≡ buffer size (answer_of x)
-unfolding planned buffer
-zeros_answer p n size (given bs) e = let z : ◌≡◌ {A = ℕ} 0 1 = cc in absurd (omega arith)
-zeros_answer p n size (refused m) e =
+pub zeros_answer : (p : Spot) {n : ℕ} (size : ℕ) (x : Res Bytes) → refused n ≡ planned p x → replicate size 0 ≡ buffer size (answer_of x)
+unfolding buffer
+zeros_answer p size (given bs) e = never_given e
+zeros_answer p size (refused m) e =
     let k : size ≡ size - 0 = omega arith in
     ap (λ (j : ℕ). replicate j 0) k
 
--- What a plan that is ready says of replacing, which gives x: what is answered and written, where in the record, and that there is room for it.
-pub record Readied (item new : Bytes) (room : ℕ) (x : Res Bytes) (q : Spot) (total : ℕ) : Type 0 where
-  pub answer : Length total ≡ given_of x
+-- What a plan says of replacing, which gives x: what is written, where in the record, and that there is room for it.
+pub record Readied (item new : Bytes) (room : ℕ) (x : Res Bytes) (q : Spot) : Type 0 where
   pub bytes : changed item q new ≡ answer_of x
   pub ordered : q.start ≤ q.end
   pub inside : q.end ≤ length item
@@ -229,14 +205,13 @@ module _ (item : Bytes) (a v s : ℕ) (new : Bytes) (room : ℕ) where
       let e₇ = (then_given (refuse 16 unless leb (length r) room) (given r) bs e₆).0 in
       rw (sym (is_replaced item a v s new room e)) (leb-true (length r) room (unless_passed 16 (leb (length r) room) e₇))
 
-  pub readied : (q : Spot) (total : ℕ) → Ready q total ≡ planned (spot item a v s) (replace item a v s new room) → Readied item new room (replace item a v s new room) q total
+  pub readied : (q : Spot) (total : ℕ) → given (record { spot = q; total = total }) ≡ planned (spot item a v s) (replace item a v s new room) → Readied item new room (replace item a v s new room) q
   readied q total e =
       let x = replace item a v s new room in
       let plan = plan_of (spot item a v s) q total x e in
       let lies : Lies (length item) a v s q = rw plan.0 (spot_lies item a v s) in
       let bytes = ap (λ (p : Spot). changed item p new) plan.0 ∙ sym (replaced_spot item a v s new) ∙ is_replaced item a v s new room plan.1 in
       record {
-        answer = answered (spot item a v s) (Ready q total) x e;
         bytes = bytes;
         ordered = lies.ordered;
         inside = lies.inside;

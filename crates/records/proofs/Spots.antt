@@ -12,15 +12,14 @@ use lib.Seq.{length-take-le, drop-drop, drop-length}
 use lib.Dec.{eqb, lit≤}
 use Rattle.paper.specs.Bytes.{Bytes}
 use Rattle.paper.specs.Sizes.{attribute_mark, value_mark, subvalue_mark}
-use Rattle.paper.specs.Refusals.{given}
 use Rattle.paper.specs.Records.{split, join, alter, Part, pieces, nth, Turn, turn, path, part_at, and_then, whole, place, replaced}
 use Rattle.paper.proofs.Ranges.{not_within}
 use Rattle.lent.specs.Scan.{range, upto}
 use Rattle.lent.proofs.Scans.{range_rest, length_upto}
 use Rattle.lent.proofs.Pieces.{take_upto}
 use Rattle.records.specs.Scan.{skip, spot_at, attribute, in_value, in_attribute, spot, marks, made, changed, changed_length}
-use Rattle.records.specs.Found.{found_of}
-use Rattle.records.specs.declared.Found.TheVariants.{At, Missing}
+use Rattle.std.specs.Prelude.{Some, None}
+use Rattle.records.specs.Found.{part_of}
 use Rattle.records.specs.declared.Stop.{Stop}
 use Rattle.records.specs.declared.Spot.{Spot}
 use Rattle.records.proofs.Scanning.{behind, none_left, part, piece_at, Way, clear, stop_inside, stop_fewer, stop_found, stop_joined, stop_way}
@@ -217,12 +216,12 @@ module _ (item : Bytes) (a v s : ℕ) (p : Spot) (e : p ≡ spot item a v s) whe
   pub lies : Lies (length item) a v s p
   lies = rw e (spot_lies item a v s)
 
-  pub found_spot : is_there p ≡ true → At p.start (p.end - p.start) ≡ found_of (given (place item a v s))
-  unfolding found_of range spot_part
-  found_spot t = rw (spot_place, t) (ap (At p.start) (sym (length-take-le _ _ (omega (arith, lies, length-drop p.start item)))))
+  pub found_spot : is_there p ≡ true → Some (record { start = p.start; len = p.end - p.start }) ≡ part_of (place item a v s)
+  unfolding range spot_part
+  found_spot t = rw (spot_place, t) (ap (λ (n : ℕ). Some (record { start = p.start; len = n })) (sym (length-take-le _ _ (omega (arith, lies, length-drop p.start item)))))
 
-  pub missing_spot : is_there p ≡ false → Missing ≡ found_of (given (place item a v s))
-  unfolding found_of spot_part
+  pub missing_spot : is_there p ≡ false → None ≡ part_of (place item a v s)
+  unfolding spot_part
   missing_spot t = rw (spot_place, t)
 
 -- ---- how long the record is after replacing

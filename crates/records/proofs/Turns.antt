@@ -1,5 +1,7 @@
 -- What one turn of each loop does, over plain lists: what the rest gives from the next place is what it gives from this one.
-use Rattle.std.specs.Prelude.{if◌then◌else◌}
+use Rattle.std.specs.Prelude.{if◌then◌else◌, cond}
+use Rattle.std.specs.List.{count_by}
+use Rattle.std.proofs.lemmas.List.Recursion.{is_count_by}
 use mathlib.Core.Path.{◌≡◌, refl, ap, ◌∙◌}
 use mathlib.Core.Bool.{Bool, true, false, true≢false, ◌||◌}
 use mathlib.Core.List.{[], ◌∷◌, ◌++◌}
@@ -18,28 +20,20 @@ use Rattle.records.specs.Scan.{tally, skip}
 
 -- ---- how many bytes are a mark
 
-module _ (m : ℕ) (text : Bytes) (n i : ℕ) (e : tally m text ≡ n + tally m (drop i text)) where
-  tally_here : i < length text → tally m text ≡ n + ((if eqb (get_or text i 0) m then 1 else 0) + tally m (drop (i + 1) text))
-  unfolding tally
-  tally_here h = e ∙ ap (λ (l : Bytes). n + tally m l) (next text i h)
-
-  pub tally_hit : i < length text → get_or text i 0 ≡ m → tally m text ≡ n + 1 + tally m (drop (i + 1) text)
-  tally_hit h t =
-      let all = rw (eq-eqb (get_or text i 0) m t) at (tally_here h) in
-      omega arith
-
-  pub tally_miss : i < length text → (get_or text i 0 ≡ m → ⊥) → tally m text ≡ n + tally m (drop (i + 1) text)
-  tally_miss h t =
-      let all = rw (ne_eqb (get_or text i 0) m t) at (tally_here h) in
-      omega arith
-
-  pub tally_all : length text ≤ i → n ≡ tally m text
-  unfolding tally
-  tally_all h =
-      let all = e ∙ ap (λ (l : Bytes). n + tally m l) (drop_of_length-le text h) in
-      omega arith
+pub tally_counted : (m : ℕ) (bs : Bytes) → tally m bs ≡ count_by (λ b. eqb b m) bs
+unfolding tally
+tally_counted m = is_count_by (tally m) (λ b. eqb b m) refl (λ b bs. go (eqb b m) (tally m bs))
+  where
+    go : (t : Bool) (n : ℕ) → (if t then 1 else 0) + n ≡ cond t (1 + n) n
+    go true n = refl
+    go false n = omega arith
 
 -- ---- past the marks
+
+pub skip_none : (m : ℕ) (bs : Bytes) (at : ℕ) → skip m bs at 0 ≡ record { at = at; left = 0 }
+unfolding skip
+skip_none m [] at = refl
+skip_none m (b ∷ bs) at = refl
 
 -- a turn, with what is left seen as a successor
 pub skip_cons : (m b : ℕ) (bs : Bytes) (at n k : ℕ) → n ≡ suc k
@@ -47,28 +41,25 @@ pub skip_cons : (m b : ℕ) (bs : Bytes) (at n k : ℕ) → n ≡ suc k
 unfolding skip
 skip_cons m b bs at n k e = rw (e, add-one)
 
-module _ (m : ℕ) (item : Bytes) (at left : ℕ) where
-  pub skip_end : length item ≤ at → skip m (drop at item) at left ≡ record { at = at; left = left }
+module _ (m : ℕ) (text : Bytes) (i at left : ℕ) where
+  pub skip_end : length text ≤ i → skip m (drop i text) at left ≡ record { at = at; left = left }
   unfolding skip
-  skip_end h = ap (λ (l : Bytes). skip m l at left) (drop_of_length-le item h)
+  skip_end h = ap (λ (l : Bytes). skip m l at left) (drop_of_length-le text h)
 
-  skip_turn : at < length item → 0 < left
-      → skip m (drop at item) at left ≡ (if within (suc m) attribute_mark (get_or item at 0) then record { at = at; left = left } else skip m (drop (at + 1) item) (at + 1) (if eqb (get_or item at 0) m then (left - 1) else left))
-  skip_turn h l = ap (λ (bs : Bytes). skip m bs at left) (next item at h) ∙ skip_cons m (get_or item at 0) (drop (at + 1) item) at left (left - 1) (omega arith)
+  skip_turn : i < length text → 0 < left
+      → skip m (drop i text) at left ≡ (if within (suc m) attribute_mark (get_or text i 0) then record { at = at; left = left } else skip m (drop (i + 1) text) (at + 1) (if eqb (get_or text i 0) m then (left - 1) else left))
+  skip_turn h l = ap (λ (bs : Bytes). skip m bs at left) (next text i h) ∙ skip_cons m (get_or text i 0) (drop (i + 1) text) at left (left - 1) (omega arith)
 
-  pub skip_closed : at < length item → 0 < left → within (suc m) attribute_mark (get_or item at 0) ≡ true → skip m (drop at item) at left ≡ record { at = at; left = left }
+  pub skip_closed : i < length text → 0 < left → within (suc m) attribute_mark (get_or text i 0) ≡ true → skip m (drop i text) at left ≡ record { at = at; left = left }
   skip_closed h l t = skip_turn h l ∙ rw t
 
-  pub skip_mark : at < length item → 0 < left → within (suc m) attribute_mark (get_or item at 0) ≡ false → get_or item at 0 ≡ m → skip m (drop at item) at left ≡ skip m (drop (at + 1) item) (at + 1) (left - 1)
-  skip_mark h l t e = skip_turn h l ∙ rw (t, eq-eqb (get_or item at 0) m e)
+  pub skip_mark : i < length text → 0 < left → within (suc m) attribute_mark (get_or text i 0) ≡ false → get_or text i 0 ≡ m
+      → skip m (drop i text) at left ≡ skip m (drop (i + 1) text) (at + 1) (left - 1)
+  skip_mark h l t e = skip_turn h l ∙ rw (t, eq-eqb (get_or text i 0) m e)
 
-  pub skip_other : at < length item → 0 < left → within (suc m) attribute_mark (get_or item at 0) ≡ false → (get_or item at 0 ≡ m → ⊥) → skip m (drop at item) at left ≡ skip m (drop (at + 1) item) (at + 1) left
-  skip_other h l t e = skip_turn h l ∙ rw (t, ne_eqb (get_or item at 0) m e)
-
-pub skip_none : (m : ℕ) (bs : Bytes) (at : ℕ) → skip m bs at 0 ≡ record { at = at; left = 0 }
-unfolding skip
-skip_none m [] at = refl
-skip_none m (b ∷ bs) at = refl
+  pub skip_other : i < length text → 0 < left → within (suc m) attribute_mark (get_or text i 0) ≡ false → (get_or text i 0 ≡ m → ⊥)
+      → skip m (drop i text) at left ≡ skip m (drop (i + 1) text) (at + 1) left
+  skip_other h l t e = skip_turn h l ∙ rw (t, ne_eqb (get_or text i 0) m e)
 
 module _ (m : ℕ) where
   -- one byte of a block that ends neither the piece nor the marks to pass

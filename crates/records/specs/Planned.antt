@@ -1,13 +1,9 @@
--- What a replacement is to do, as the enum of the code, and the tests that lead to it.
-use Rattle.std.specs.Prelude.{ℕ, ◌≤◌, ◌&&◌, length, leb, ltb, eqb, if◌then◌else◌}
+-- What a replacement is to do, as the code has it, and the tests that lead to it.
+use Rattle.std.specs.Prelude.{ℕ, ◌≤◌, ◌&&◌, length, leb, ltb, eqb}
 use Rattle.paper.specs.Bytes.{Bytes, any}
 use Rattle.paper.specs.Sizes.{is_mark, entry_most, id_most, record_most, position_most}
 use Rattle.paper.specs.Refusals.{Res, given, refused, ◌>>◌, refuse◌unless◌, refuse◌when◌, over_long_record, over_long_entry, mark_in_element, bad_id, short_output}
-use Rattle.paper.specs.declared.Given.{Given}
-use Rattle.paper.specs.declared.Given.TheVariants.{Length}
-use Rattle.paper.specs.declared.Given.TheVariants.{Refused as GivenRefused}
 use Rattle.records.specs.declared.Plan.{Plan}
-use Rattle.records.specs.declared.Plan.TheVariants.{Ready, Refused}
 use Rattle.records.specs.declared.Spot.{Spot}
 
 -- 9 and 17 of the new bytes, and 3 where they are to be the id
@@ -28,15 +24,13 @@ pub record Small (size : ℕ) (p : Spot) (count : ℕ) : Type 0 where
   pub subvalues : p.subvalues ≤ position_most
 
 -- 1 and 16 of what would result
-unfoldable pub sized_plan : Spot → ℕ → ℕ → Plan
-sized_plan p total room = if leb total record_most then (if leb total room then Ready p total else Refused short_output) else Refused over_long_record
+abbrev pub sized_plan : Spot → ℕ → ℕ → Res Plan
+sized_plan p total room = do
+  refuse over_long_record unless leb total record_most
+  refuse short_output unless leb total room
+  given (record { spot = p; total = total })
 
 -- the spot to write at, where replacing gives a record; its refusal otherwise
-unfoldable pub planned : Spot → Res Bytes → Plan
-planned p (given bs) = Ready p (length bs)
-planned p (refused n) = Refused n
-
--- the answer that a plan stands for
-abbrev pub plan_answer : Plan → Given
-plan_answer (Ready p total) = Length total
-plan_answer (Refused n) = GivenRefused n
+abbrev pub planned : Spot → Res Bytes → Res Plan
+planned p (given bs) = given (record { spot = p; total = length bs })
+planned p (refused n) = refused n

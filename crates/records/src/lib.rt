@@ -7,24 +7,23 @@
 ghost use Rattle.std.specs.Prelude.{◌≡◌, ◌+◌, ◌-◌, ◌^◌, ◌≤◌, ◌<◌, ◌++◌, length, take, drop, replicate};
 ghost use Rattle.paper.specs.Bytes.{any, buffer};
 ghost use Rattle.paper.specs.Sizes.{attribute_mark};
-ghost use Rattle.paper.specs.Refusals.{given, refusal_of, answer_of};
-ghost use Rattle.paper.specs.Answers.{given_of};
+ghost use Rattle.paper.specs.Refusals.{answer_of};
+ghost use Rattle.paper.specs.Answers.{told, sized};
 ghost use Rattle.paper.specs.Records.{lawful_id, lawful_record, lawful_address, place, path, reads, find, extract, replace};
-ghost use Rattle.records.specs.Found.{lawful_find, found_of, Within, found_bytes, found_there};
+ghost use Rattle.records.specs.Found.{lawful_find, found_of, part_of, part_in, Within, part_bytes, part_there};
 ghost use Rattle.records.specs.Scan.{tally, is_either, skip, spot_at, attribute, in_value, in_attribute, spot, marks, made, changed, changed_length};
-ghost use Rattle.records.specs.Planned.{lawful_new, Small, sized_plan, planned, plan_answer};
+ghost use Rattle.records.specs.Planned.{lawful_new, Small, sized_plan, planned};
 ghost use Rattle.lent.specs.Over.{over};
 ghost use Rattle.lent.specs.Scan.{first_place};
 
 use lent::{BLOCK, far_within, first_within, some_within};
-use paper::{Given, Limit, Mark, refusal};
+use paper::{Address, Limit, Mark, Refusal};
 
-// "The answer of finding is "found" or "missing"", or a refusal.
+// A part of the record: where it starts, and how many bytes it has.
 #[derive(Clone, Copy)]
-pub enum Found {
-    At { start: usize, len: usize },
-    Missing,
-    Refused(u64),
+pub struct Span {
+    pub start: usize,
+    pub len: usize,
 }
 
 // Where a scan for marks stopped, and how many it had still to pass.
@@ -44,11 +43,11 @@ struct Spot {
     subvalues: u64,
 }
 
-// What a replacement is to do: write at a spot, with so many bytes in all, or refuse.
+// What a replacement is to do: write at a spot, with so many bytes in all.
 #[derive(Clone, Copy)]
-enum Plan {
-    Ready { spot: Spot, total: usize },
-    Refused(u64),
+struct Plan {
+    spot: Spot,
+    total: usize,
 }
 
 // The limits of an address, as an address has them.
@@ -59,46 +58,40 @@ const POSITIONS: u64 = Limit::POSITION.most as u64;
 // A record below this is short.
 const SHORT: usize = 4 * BLOCK;
 
-// How many bytes are the mark. No early exit, so that it is compiled to SIMD.
+// How many bytes are the mark.
 fn tally(text: &[u8], mark: Mark) -> u64
     ensures { result ≡ tally mark.byte text.now }
 {
-    let mut n = 0;
-    let mut i = 0;
-    while i < text.len() {
-        let b = text[i];
-        i += 1;
-        if b == mark.byte {
-            n += 1;
-        }
-    }
-    n
+    lent::count(text, |b| b == mark.byte)
 }
 
 // Past n marks, until a mark above them ends the piece that holds them.
+// The two tests stand apart and the bytes are walked, not a range of places: the other forms were slower when measured.
 fn skip(item: &[u8], from: usize, mark: Mark, n: u64) -> Stop
     requires { from ≤ length item.now }
     ensures { result ≡ skip mark.byte (drop from item.now) from n }
 {
-    let mut at = from;
     let mut left = n;
-    while 0 < left {
-        if item.len() <= at {
+    for (passed, &b) in item[from..].iter().enumerate() {
+        let at = from + passed;
+        if left == 0 {
             return Stop { at, left };
         }
-        let b = item[at];
         if (mark.byte < b) & (b <= Mark::ATTRIBUTE.byte) {
             return Stop { at, left };
         }
-        at += 1;
         if b == mark.byte {
             left -= 1;
         }
     }
-    Stop { at, left: 0 }
+    Stop {
+        at: item.len(),
+        left,
+    }
 }
 
 // Past the blocks that end neither the marks to pass nor the piece that holds them.
+// Not a `position`: two things are carried from block to block, the place and the marks still to pass.
 fn skip_blocks(item: &[u8], from: usize, mark: Mark, n: u64) -> Stop
     requires { (from ≤ length item.now) × (mark.byte ≤ attribute_mark) }
     ensures at_in_bounds { result.at ≤ length item.now }
@@ -106,15 +99,14 @@ fn skip_blocks(item: &[u8], from: usize, mark: Mark, n: u64) -> Stop
 {
     let mut at = from;
     let mut left = n;
-    while BLOCK <= item.len() - at {
-        let next = at + BLOCK;
-        let passed = tally(&item[at..next], mark);
-        let closed = some_within(&item[at..next], mark.byte + 1, Mark::ATTRIBUTE.byte);
+    for block in item[from..].chunks_exact(BLOCK) {
+        let passed = tally(block, mark);
+        let closed = some_within(block, mark.byte + 1, Mark::ATTRIBUTE.byte);
         if (left <= passed) | closed {
             return Stop { at, left };
         }
         left -= passed;
-        at = next;
+        at += BLOCK;
     }
     Stop { at, left }
 }
@@ -130,6 +122,7 @@ fn far_pass(item: &[u8], from: usize, mark: Mark, n: u64) -> Stop
 
 // Past n marks. A short record is walked byte by byte: tests of blocks would cost more than they save.
 // Here and below `&*` lends the record anew to the scan by blocks: handed on itself it would have to stand in memory.
+#[tactic(auto, using(crate::proofs::Scanning::stop_told))]
 fn pass(item: &[u8], from: usize, mark: Mark, n: u64) -> Stop
     requires { (from ≤ length item.now) × (mark.byte ≤ attribute_mark) }
     ensures value { result ≡ skip mark.byte (drop from item.now) from n }
@@ -141,77 +134,63 @@ fn pass(item: &[u8], from: usize, mark: Mark, n: u64) -> Stop
     far_pass(&*item, from, mark, n)
 }
 
-// Whether a byte x or y is there. No early exit and a flag as wide as a byte, so that it is compiled to SIMD.
+// Whether a byte x or y is there.
 fn holds(text: &[u8], x: Mark, y: Mark) -> bool
     ensures { result ≡ any (is_either x.byte y.byte) text.now }
 {
-    let mut bad = 0u8;
-    let mut i = 0;
-    while i < text.len() {
-        let b = text[i];
-        i += 1;
-        if (b == x.byte) | (b == y.byte) {
-            bad = 1;
-        }
-    }
-    bad != 0
+    lent::some(text, |b| (b == x.byte) | (b == y.byte))
 }
 
-// Refusal 3: "id over 48 .., or holding 252 or 253". 0 for none.
-fn lawful_id(item: &[u8]) -> u64
-    ensures { result ≡ refusal_of (lawful_id item.now) }
+// Refusal 3: "id over 48 .., or holding 252 or 253".
+fn lawful_id(item: &[u8]) -> Result<(), Refusal>
+    ensures { told result ≡ lawful_id item.now }
 {
-    let end = first_within(
-        item,
-        0,
-        item.len(),
-        Mark::ATTRIBUTE.byte,
-        Mark::ATTRIBUTE.byte,
-    );
+    let end = lent::place_of(item, 0, Mark::ATTRIBUTE.byte);
     if Limit::ID.most < end {
-        return refusal::BAD_ID;
+        return Err(Refusal::BadId);
     }
     if holds(&item[0..end], Mark::SUBVALUE, Mark::VALUE) {
-        return refusal::BAD_ID;
+        return Err(Refusal::BadId);
     }
-    0
+    Ok(())
 }
 
-// Refusals 1, 2, 3, the first that holds; 0 for none.
-fn lawful(item: &[u8]) -> u64
-    ensures { result ≡ refusal_of (lawful_record item.now) }
+// Refusals 1, 2, 3, the first that holds.
+#[tactic(auto, unfolding(paper::specs::Records::lawful_record, paper::specs::Sizes::is_outer_mark, crate::specs::Scan::is_either))]
+fn lawful(item: &[u8]) -> Result<(), Refusal>
+    ensures { told result ≡ lawful_record item.now }
 {
     if Limit::RECORD.most < item.len() {
-        return refusal::OVER_LONG_RECORD;
+        return Err(Refusal::OverLongRecord);
     }
     if holds(item, Mark::BUFFER, Mark::SEGMENT) {
-        return refusal::BAD_BYTE;
+        return Err(Refusal::BadByte);
     }
     lawful_id(item)
 }
 
-// Refusal 4; 0 for none.
-fn lawful_address(a: u64, v: u64, s: u64) -> u64
-    ensures { result ≡ refusal_of (lawful_address a v s) }
+// Refusal 4.
+#[tactic(auto, unfolding(paper::specs::Records::lawful_address))]
+fn lawful_address(at: Address) -> Result<(), Refusal>
+    ensures { told result ≡ lawful_address at.a at.v at.s }
 {
+    let Address { a, v, s } = at;
     if !((a <= ATTRIBUTES) & (v <= POSITIONS) & (s <= POSITIONS)) {
-        return refusal::BAD_ADDRESS;
+        return Err(Refusal::BadAddress);
     }
     if ((v == 0) & (0 < s)) | ((a == 0) & (0 < v)) {
-        return refusal::BAD_ADDRESS;
+        return Err(Refusal::BadAddress);
     }
-    0
+    Ok(())
 }
 
 // "Finding tries 1, 2, 3, 4", and so does replacing before its own.
-pub fn lawful_find(item: &[u8], a: u64, v: u64, s: u64) -> u64
-    ensures { result ≡ refusal_of (lawful_find item.now a v s) }
+#[tactic(auto, unfolding(crate::specs::Found::lawful_find))]
+pub fn lawful_find(item: &[u8], at: Address) -> Result<(), Refusal>
+    ensures { told result ≡ lawful_find item.now at.a at.v at.s }
 {
-    let refusal = lawful(item);
-    if refusal != 0 {
-        return refusal;
-    }
-    lawful_address(a, v, s)
+    lawful(item)?;
+    lawful_address(at)
 }
 
 // The end of the piece that begins at a place: the first mark from `mark` on, in a short record byte by byte.
@@ -226,7 +205,8 @@ fn piece_end(item: &[u8], at: usize, mark: Mark) -> usize
     far_within(&*item, at, size, mark.byte, Mark::ATTRIBUTE.byte)
 }
 
-// That piece, and the marks still to be made in front of it.
+// That piece, and the marks still to be made in front of it: three counts and no struct, as each caller makes them one by one.
+#[tactic(auto, using(crate::proofs::Spots::spot_end))]
 fn spot_at(item: &[u8], at: usize, mark: Mark, attributes: u64, values: u64, subvalues: u64) -> Spot
     requires { at ≤ length item.now }
     ensures { result ≡ spot_at mark.byte item.now at attributes values subvalues }
@@ -242,6 +222,7 @@ fn spot_at(item: &[u8], at: usize, mark: Mark, attributes: u64, values: u64, sub
 
 // Where attribute a begins, or is to be made, and by how many marks.
 // Where a scan finds no further mark it stops at the end of the piece that holds it, and the scans below it stop there too.
+// Not `pass` from 0, which was slower: with one caller `far_pass` is compiled into it, and each scan of a short record becomes a call.
 fn attribute(item: &[u8], a: u64) -> Stop
     ensures value { result ≡ attribute item.now a }
     ensures at_in_bounds { result.at ≤ length item.now }
@@ -253,6 +234,7 @@ fn attribute(item: &[u8], a: u64) -> Stop
 }
 
 // Inside the value that begins at a place: "s = 0 the whole value".
+#[tactic(auto, unfolding(crate::specs::Scan::in_value))]
 fn in_value(item: &[u8], attributes: u64, value: Stop, s: u64) -> Spot
     requires { value.at ≤ length item.now }
     ensures { result ≡ in_value item.now attributes value s }
@@ -272,6 +254,7 @@ fn in_value(item: &[u8], attributes: u64, value: Stop, s: u64) -> Spot
 }
 
 // Inside the attribute that begins at a place: "v = 0 means the whole attribute".
+#[tactic(auto, unfolding(crate::specs::Scan::in_attribute))]
 fn in_attribute(item: &[u8], attribute: Stop, v: u64, s: u64) -> Spot
     requires { attribute.at ≤ length item.now }
     ensures { result ≡ in_attribute item.now attribute v s }
@@ -284,44 +267,45 @@ fn in_attribute(item: &[u8], attribute: Stop, v: u64, s: u64) -> Spot
 }
 
 // The place of an address, found or to be made: the attribute, and then inside it.
-fn locate(item: &[u8], a: u64, v: u64, s: u64) -> Spot
-    ensures { result ≡ spot item.now a v s }
+#[tactic(auto, unfolding(crate::specs::Scan::spot))]
+fn locate(item: &[u8], at: Address) -> Spot
+    ensures { result ≡ spot item.now at.a at.v at.s }
 {
-    in_attribute(item, attribute(item, a), v, s)
+    in_attribute(item, attribute(item, at.a), at.v, at.s)
 }
 
-// The place of an address, without the tests.
-fn place(item: &[u8], a: u64, v: u64, s: u64) -> Found
-    ensures { result ≡ found_of (given (place item.now a v s)) }
+// "The answer of finding is "found" or "missing"", without the tests.
+#[tactic(auto, using(crate::proofs::Spots::lies, crate::proofs::Spots::found_spot, crate::proofs::Spots::missing_spot))]
+fn place(item: &[u8], at: Address) -> Option<Span>
+    ensures { result ≡ part_of (place item.now at.a at.v at.s) }
 {
-    let spot = locate(item, a, v, s);
+    let spot = locate(item, at);
+    // Not `made`: this address may be untested, and the sum of what it names may wrap.
     if (spot.attributes == 0) & (spot.values == 0) & (spot.subvalues == 0) {
-        return Found::At {
+        return Some(Span {
             start: spot.start,
             len: spot.end - spot.start,
-        };
+        });
     }
-    Found::Missing
+    None
 }
 
 // "Finding tries 1, 2, 3, 4."
-pub fn find(item: &[u8], a: u64, v: u64, s: u64) -> Found
-    ensures { result ≡ found_of (find item.now a v s) }
+#[tactic(auto, using(crate::proofs::Finding::find_refused, crate::proofs::Finding::find_place))]
+pub fn find(item: &[u8], at: Address) -> Result<Option<Span>, Refusal>
+    ensures { told result ≡ found_of (find item.now at.a at.v at.s) }
 {
-    let refusal = lawful_find(item, a, v, s);
-    if refusal != 0 {
-        return Found::Refused(refusal);
-    }
-    place(item, a, v, s)
+    lawful_find(item, at)?;
+    Ok(place(item, at))
 }
 
-// The part of the record itself at the place that was found; an empty one otherwise.
-fn cut<'a>(item: &'a [u8], found: Found) -> &'a [u8]
-    requires { Within (length item.now) found }
-    ensures bytes { result.now ≡ found_bytes item.now found }
-    ensures there { result.ref_ptr ≡ found_there item.entry.ref_ptr found }
+// The part of the record itself; an empty one where there is none.
+fn cut<'a>(item: &'a [u8], part: Option<Span>) -> &'a [u8]
+    requires { Within (length item.now) part }
+    ensures bytes { result.now ≡ part_bytes item.now part }
+    ensures there { result.ref_ptr ≡ part_there item.entry.ref_ptr part }
 {
-    let Found::At { start, len } = found else {
+    let Some(Span { start, len }) = part else {
         return &item[0..0];
     };
     let end = start + len;
@@ -329,84 +313,83 @@ fn cut<'a>(item: &'a [u8], found: Found) -> &'a [u8]
 }
 
 // "extraction hands back that part of the record itself .. and an empty part when missing or refused"
-pub fn extract<'a>(item: &'a [u8], a: u64, v: u64, s: u64) -> &'a [u8]
-    ensures bytes { result.now ≡ extract (find item.now a v s) }
-    ensures there { result.ref_ptr ≡ found_there item.entry.ref_ptr (found_of (find item.now a v s)) }
+pub fn extract<'a>(item: &'a [u8], at: Address) -> &'a [u8]
+    ensures bytes { result.now ≡ extract (find item.now at.a at.v at.s) }
+    ensures there { result.ref_ptr ≡ part_there item.entry.ref_ptr (part_in (find item.now at.a at.v at.s)) }
 {
-    cut(item, find(item, a, v, s))
+    cut(item, find(item, at).unwrap_or(None))
 }
 
 // What an address reads, missing as empty, without the tests: what loads into F.
-pub fn part<'a>(item: &'a [u8], a: u64, v: u64, s: u64) -> &'a [u8]
-    ensures bytes { result.now ≡ reads item.now (path a v s) }
-    ensures there { result.ref_ptr ≡ found_there item.entry.ref_ptr (found_of (given (place item.now a v s))) }
+pub fn part<'a>(item: &'a [u8], at: Address) -> &'a [u8]
+    ensures bytes { result.now ≡ reads item.now (path at.a at.v at.s) }
+    ensures there { result.ref_ptr ≡ part_there item.entry.ref_ptr (part_of (place item.now at.a at.v at.s)) }
 {
-    cut(item, place(item, a, v, s))
+    cut(item, place(item, at))
 }
 
-// Refusals 9 and 17 of the new bytes, then 3 where they are to be the id; 0 for none.
-fn lawful_new(new: &[u8], a: u64) -> u64
-    ensures { result ≡ refusal_of (lawful_new new.now a) }
+// Refusals 9 and 17 of the new bytes, then 3 where they are to be the id.
+#[tactic(auto, unfolding(crate::specs::Planned::lawful_new, paper::specs::Sizes::entry_most))]
+fn lawful_new(new: &[u8], a: u64) -> Result<(), Refusal>
+    ensures { told result ≡ lawful_new new.now a }
 {
     if Limit::ENTRY.most < new.len() {
-        return refusal::OVER_LONG_ENTRY;
+        return Err(Refusal::OverLongEntry);
     }
     if lent::marked(new) {
-        return refusal::MARK_IN_ELEMENT;
+        return Err(Refusal::MarkInElement);
     }
     if (a == 0) & (Limit::ID.most < new.len()) {
-        return refusal::BAD_ID;
+        return Err(Refusal::BadId);
     }
-    0
+    Ok(())
 }
 
-// How many marks make a missing place.
-fn made(spot: Spot) -> usize
-    requires { made spot < 2 ^ 64 }
-    ensures { result ≡ made spot }
-{
-    spot.attributes as usize + spot.values as usize + spot.subvalues as usize
-}
+impl Spot {
+    // How many marks make a missing place.
+    fn made(self) -> usize
+        requires { made self < 2 ^ 64 }
+        ensures { result ≡ made self }
+    {
+        self.attributes as usize + self.values as usize + self.subvalues as usize
+    }
 
-// How long the record is after replacing. No sum wraps: each part is at most a record, an address or an element.
-fn changed_len(spot: Spot, size: usize, count: usize) -> usize
-    requires { Small size spot count }
-    ensures { result ≡ changed_length size spot count }
-{
-    spot.start + made(spot) + count + (size - spot.end)
+    // How long the record is after replacing. No sum wraps: each part is at most a record, an address or an element.
+    fn changed_len(self, size: usize, count: usize) -> usize
+        requires { Small size self count }
+        ensures { result ≡ changed_length size self count }
+    {
+        self.start + self.made() + count + (size - self.end)
+    }
 }
 
 // Refusals 1 and 16 of what would result.
-fn sized(spot: Spot, total: usize, room: usize) -> Plan
-    ensures { result ≡ sized_plan spot total room }
+fn sized(spot: Spot, total: usize, room: usize) -> Result<Plan, Refusal>
+    ensures { told result ≡ sized_plan spot total room }
 {
     if Limit::RECORD.most < total {
-        return Plan::Refused(refusal::OVER_LONG_RECORD);
+        return Err(Refusal::OverLongRecord);
     }
     if room < total {
-        return Plan::Refused(refusal::SHORT_OUTPUT);
+        return Err(Refusal::ShortOutput);
     }
-    Plan::Ready { spot, total }
+    Ok(Plan { spot, total })
 }
 
 // "Replacing: 1, 2, 3, 4, 9, 17, then 3 and 1 for what would result, then 16"
-fn prepare(item: &[u8], a: u64, v: u64, s: u64, new: &[u8], room: usize) -> Plan
-    ensures { result ≡ planned (spot item.now a v s) (replace item.now a v s new.now room) }
+#[tactic(auto, using(crate::proofs::Replacing::plan_refused, crate::proofs::Replacing::plan_refused_new, crate::proofs::Replacing::plan_sized))]
+fn prepare(item: &[u8], at: Address, new: &[u8], room: usize) -> Result<Plan, Refusal>
+    ensures { told result ≡ planned (spot item.now at.a at.v at.s) (replace item.now at.a at.v at.s new.now room) }
 {
-    let refusal = lawful_find(item, a, v, s);
-    if refusal != 0 {
-        return Plan::Refused(refusal);
-    }
-    let refusal = lawful_new(new, a);
-    if refusal != 0 {
-        return Plan::Refused(refusal);
-    }
-    let spot = locate(item, a, v, s);
-    let total = changed_len(spot, item.len(), new.len());
+    lawful_find(item, at)?;
+    lawful_new(new, at.a)?;
+    let spot = locate(item, at);
+    let total = spot.changed_len(item.len(), new.len());
     sized(spot, total, room)
 }
 
 // The marks that make a missing place, as few as will do.
+// Here and below `lent::fill` and `lent::copy_in`, not the slice's own: their contracts are laid end to end by the laws of `over`.
 fn write_marks(out: &mut [u8], at: usize, spot: Spot)
     requires { at + made spot ≤ length out.old }
     ensures { out.new ≡ over out.old at (marks spot) }
@@ -430,7 +413,7 @@ fn write_front(item: &[u8], out: &mut [u8], spot: Spot) -> usize
     let start = spot.start;
     lent::copy_in(&item[0..start], out, 0);
     write_marks(out, start, spot);
-    start + made(spot)
+    start + spot.made()
 }
 
 // The new bytes, the rest of the record, and zeros to the end.
@@ -458,27 +441,21 @@ fn write(item: &[u8], new: &[u8], out: &mut [u8], spot: Spot)
     write_rest(new, &item[end..], out, at);
 }
 
-// What a plan answers.
-fn answer(plan: Plan) -> Given
-    ensures { result ≡ plan_answer plan }
-{
-    match plan {
-        Plan::Ready { spot: _, total } => Given::Length(total),
-        Plan::Refused(n) => Given::Refused(n),
-    }
-}
-
 // "Replacing writes a new record to the output."
-pub fn replace(item: &[u8], a: u64, v: u64, s: u64, new: &[u8], out: &mut [u8]) -> Given
-    ensures answers { result ≡ given_of (replace item.now a v s new.now (length out.old)) }
+#[tactic(auto, using(crate::proofs::Replacing::readied, crate::proofs::Replacing::zeros_answer))]
+pub fn replace(item: &[u8], at: Address, new: &[u8], out: &mut [u8]) -> Result<usize, Refusal>
+    ensures answers { told result ≡ sized (replace item.now at.a at.v at.s new.now (length out.old)) }
     ensures writes { out.new
-        ≡ buffer (length out.old) (answer_of (replace item.now a v s new.now (length out.old))) }
+        ≡ buffer (length out.old) (answer_of (replace item.now at.a at.v at.s new.now (length out.old))) }
 {
-    let planned = prepare(item, a, v, s, new, out.len());
-    let Plan::Ready { spot, total } = planned else {
-        lent::clear(out);
-        return answer(planned);
-    };
-    write(item, new, out, spot);
-    Given::Length(total)
+    match prepare(item, at, new, out.len()) {
+        Ok(Plan { spot, total }) => {
+            write(item, new, out, spot);
+            Ok(total)
+        }
+        Err(refusal) => {
+            lent::clear(out);
+            Err(refusal)
+        }
+    }
 }

@@ -1,14 +1,13 @@
 -- `records::extract` meets its contract: what is cut at the place that finding answers is the part.
 use mathlib.Core.Path.{ap, ◌∙◌}
-use Rattle.records.specs.Found.{found_bytes, found_there}
-use Rattle.records.proofs.Finding.{inside_find, inside_within, inside_bytes}
+use Rattle.records.specs.Found.{part_bytes}
+use Rattle.records.proofs.Finding.{part_found, inside_find, inside_within, inside_bytes}
 use Rattle.records.proofs.extract.Goals as goal
 
 pub cut-requires : goal.cut-requires
-cut-requires c =
-    let a = c.args in
-    rw c.find.ensures (inside_within (inside_find a.item.now a.a a.v a.s))
+cut-requires c = rw (c.unwrap_or.ensures ∙ part_found _ _ c.find.ensures) (inside_within (inside_find c.args.item.now _ _ _))
 
-pub returns : goal.returns
-returns c =
-    let a = c.args in let found = c.find.ensures in record { bytes = c.cut.ensures.bytes ∙ ap (found_bytes a.item.now) found ∙ inside_bytes (inside_find a.item.now a.a a.v a.s); there = c.cut.ensures.there ∙ ap (found_there a.item.ref_ptr) found }
+pub returns-clause-bytes : goal.returns-clause-bytes
+returns-clause-bytes c =
+    c.cut.ensures.bytes ∙ ap (part_bytes c.args.item.now) (c.unwrap_or.ensures ∙ part_found _ _ c.find.ensures)
+    ∙ inside_bytes (inside_find c.args.item.now _ _ _)

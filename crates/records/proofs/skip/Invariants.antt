@@ -1,12 +1,9 @@
-use Prim.Native.Nat.{◌-◌, ◌≤◌}
+use Prim.Native.Nat.{◌+◌, ◌-◌}
 use mathlib.Core.Path.{◌≡◌}
-use lib.ListN.{length, drop}
+use lib.ListN.{length, take, drop}
 use Rattle.records.specs.Scan.{skip}
 use Rattle.records.proofs.skip.Given as goal
 
-abbrev pub invariant-loop-left : goal.invariant-loop-left
-invariant-loop-left l =
-    (l.at ≤ length l.item) × (skip l.mark.byte (drop l.from l.item) l.from l.n ≡ skip l.mark.byte (drop l.at l.item) l.at l.left)
-
-abbrev pub decreases-loop-left : goal.decreases-loop-left
-decreases-loop-left l = length l.item - l.at
+abbrev pub invariant-loop-passed : goal.invariant-loop-passed
+invariant-loop-passed l =
+    skip l.mark.byte (drop l.from l.item) l.from l.n ≡ skip l.mark.byte (drop l.passed (take (length l.item - l.from) (drop l.from l.item))) (l.from + l.passed) l.left
