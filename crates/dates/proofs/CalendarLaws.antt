@@ -1,6 +1,7 @@
 -- The year of a day by a division and one comparison is that of the definition, and the day of a date is its sum; a year has at most 366 days.
 -- Assumes nothing.
 use Rattle.std.specs.Prelude.{if◌then◌else◌}
+use Rattle.std.specs.Int.{from_bool}
 use Prim.Native.Nat.{ℕ, ◌+◌, ◌-◌, ◌*◌, ◌/◌, ◌≤◌, ◌<◌}
 use mathlib.Core.Path.{◌≡◌}
 use mathlib.Core.Bool.{Bool, true, false}
@@ -28,10 +29,10 @@ pub year_days_most : (y : ℕ) → days_in 12 (month_lengths y) ≤ 366
 unfolding year_length
 year_days_most y = rw months_fill (year_days_by (leap y))
 
--- a number that counts or does not adds at most itself
-pub counted_most : (n : ℕ) (counts : Bool) → (if counts then n else 0) ≤ n
-counted_most n true = omega arith
-counted_most n false = omega arith
+-- what counts once or not at all is at most 1
+pub counted_most : (counts : Bool) → from_bool counts ≤ 1
+counted_most true = omega arith
+counted_most false = omega arith
 
 -- the sum that `days_to` makes
 pub days_sum : (d : Date) (a b : ℕ) → a ≡ days_before_year d.year → b ≡ days_in (d.month - 1) (month_lengths d.year)

@@ -1,5 +1,6 @@
 -- Document 02, L6: why the formula counts the days before a month, and turned round finds the month of a day. Assumes nothing.
 use Rattle.std.specs.Prelude.{if◌then◌else◌}
+use Rattle.std.specs.Int.{from_bool}
 use Prim.Native.Nat.{ℕ, zero, suc, ◌+◌, ◌-◌, ◌*◌, ◌/◌, ◌≤◌, ◌<◌}
 use mathlib.Core.Path.{◌≡◌, refl}
 use mathlib.Core.Bool.{Bool, true, false, ◌&&◌}
@@ -40,12 +41,12 @@ evenly_sums zero h = refl
 evenly_sums (suc k) h = omega (arith, days_in_next (months 30) k h, evenly_sums k (omega arith), rises k h)
 
 -- February has 28, and in a leap year one more ..
-february : (b : Bool) → (if b then 29 else 28) + 2 ≡ 30 + (if b then 1 else 0)
+february : (b : Bool) → (if b then 29 else 28) + 2 ≡ 30 + from_bool b
 february true = refl
 february false = refl
 
 -- .. so from March on 2 days fewer come before, in a leap year 1 fewer; until then nothing changes
-from_march : (y k : ℕ) → 1 < k → k ≤ 12 → days_in k (month_lengths y) + 2 ≡ evenly k + (if leap y then 1 else 0)
+from_march : (y k : ℕ) → 1 < k → k ≤ 12 → days_in k (month_lengths y) + 2 ≡ evenly k + from_bool (leap y)
 unfolding days_in month_lengths
 from_march y zero f h = omega arith
 from_march y (suc zero) f h = omega arith
@@ -58,10 +59,10 @@ before_march y (suc zero) h = refl
 before_march y (suc (suc k)) h = omega arith
 
 -- both in one, as the code has it
-pub days_before : (y k : ℕ) → k ≤ 12 → days_in k (month_lengths y) + (if ltb 1 k then 2 else 0) ≡ evenly k + (if ltb 1 k && leap y then 1 else 0)
+pub days_before : (y k : ℕ) → k ≤ 12 → days_in k (month_lengths y) + 2 * from_bool (ltb 1 k) ≡ evenly k + from_bool (ltb 1 k && leap y)
 days_before y k h = by_month (ltb 1 k) refl
   where
-    by_month : (late : Bool) → ltb 1 k ≡ late → days_in k (month_lengths y) + (if late then 2 else 0) ≡ evenly k + (if late && leap y then 1 else 0)
+    by_month : (late : Bool) → ltb 1 k ≡ late → days_in k (month_lengths y) + 2 * from_bool late ≡ evenly k + from_bool (late && leap y)
     by_month true t = from_march y k (ltb-true 1 k t) h
     by_month false t = omega (arith, before_march y k (ltb-false 1 k t))
 
@@ -76,7 +77,7 @@ pub record InMonth (y n k : ℕ) : Type 0 where
   pub to : n < days_in (suc k) (month_lengths y)
 
 -- from March on it is, in the year of 367 days, the day two days later, and in a leap year one day later
-found_late : (y n d : ℕ) → n < days_in 12 (month_lengths y) → days_in 2 (month_lengths y) ≤ n → d + (if leap y then 1 else 0) ≡ n + 2
+found_late : (y n d : ℕ) → n < days_in 12 (month_lengths y) → days_in 2 (month_lengths y) ≤ n → d + from_bool (leap y) ≡ n + 2
     → InMonth y n ((12 * d + 6) / 367)
 found_late y n d h f s =
     let k = (12 * d + 6) / 367 in
@@ -96,23 +97,23 @@ found_early y n f = by_month ((12 * n + 6) / 367) (evenly_within n).0 (evenly_wi
     by_month zero from to =
         record { of_twelve = omega arith; from = omega (arith, before_march y 0 (omega arith)); to = omega (arith, before_march y 1 (omega arith)) }
     by_month (suc zero) from to = record { of_twelve = omega arith; from = omega (arith, before_march y 1 (omega arith)); to = f }
-    by_month (suc (suc k)) from to = omega (arith, from_march y 2 (omega arith) (omega arith), counted_most 1 (leap y))
+    by_month (suc (suc k)) from to = omega (arith, from_march y 2 (omega arith) (omega arith), counted_most (leap y))
 
 -- no more is taken off for the leap day than is put back, so that the code's difference never falls below 0
-pub leap_day_within : (late leap : Bool) → (if late && leap then 1 else 0) ≤ (if late then 2 else 0)
-leap_day_within true leap = omega (arith, counted_most 1 leap)
+pub leap_day_within : (late leap : Bool) → from_bool (late && leap) ≤ 2 * from_bool late
+leap_day_within true leap = omega (arith, counted_most leap)
 leap_day_within false leap = omega arith
 
 -- so every day of the year is in the month that the formula turned round gives
-pub month_found : (y n lacking leap_day : ℕ) → n < days_in 12 (month_lengths y) → lacking ≡ (if leb (days_in 2 (month_lengths y)) n then 2 else 0)
-    → leap_day ≡ (if leb (days_in 2 (month_lengths y)) n && leap y then 1 else 0) → InMonth y n ((12 * (n + lacking - leap_day) + 6) / 367)
-month_found y n lacking leap_day h = by_march (leb (days_in 2 (month_lengths y)) n) refl
+pub month_found : (y n march leap_day : ℕ) → n < days_in 12 (month_lengths y) → march ≡ from_bool (leb (days_in 2 (month_lengths y)) n)
+    → leap_day ≡ from_bool (leb (days_in 2 (month_lengths y)) n && leap y) → InMonth y n ((12 * (n + 2 * march - leap_day) + 6) / 367)
+month_found y n march leap_day h = by_march (leb (days_in 2 (month_lengths y)) n) refl
   where
-    by_march : (late : Bool) → leb (days_in 2 (month_lengths y)) n ≡ late → lacking ≡ (if late then 2 else 0) → leap_day ≡ (if late && leap y then 1 else 0)
-        → InMonth y n ((12 * (n + lacking - leap_day) + 6) / 367)
-    by_march true t p q = found_late y n (n + lacking - leap_day) h (leb-true _ _ t) (omega (arith, p, q, counted_most 1 (leap y)))
+    by_march : (late : Bool) → leb (days_in 2 (month_lengths y)) n ≡ late → march ≡ from_bool late → leap_day ≡ from_bool (late && leap y)
+        → InMonth y n ((12 * (n + 2 * march - leap_day) + 6) / 367)
+    by_march true t p q = found_late y n (n + 2 * march - leap_day) h (leb-true _ _ t) (omega (arith, p, q, counted_most (leap y)))
     by_march false t p q =
-        let same : n + lacking - leap_day ≡ n = omega (arith, p, q) in
+        let same : n + 2 * march - leap_day ≡ n = omega (arith, p, q) in
         rw same (found_early y n (leb-false _ _ t))
 
 -- and the month gives the date

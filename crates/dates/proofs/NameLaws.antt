@@ -1,7 +1,10 @@
 -- A month by its name: the search of the table is the definition's, and a byte that is no letter is in no name. Assumes nothing.
-use Rattle.std.specs.Prelude.{if◌then◌else◌}
+use Rattle.std.specs.Prelude.{if◌then◌else◌, cond, Some, None, bytes_eq}
+use Rattle.std.specs.Prelude.{Option as Maybe}
+use Rattle.std.specs.List.{position_from, position_or_len}
+use Rattle.std.proofs.lemmas.Iterator.Adapters.{position_from-zero}
 use Prim.Native.Nat.{ℕ, zero, suc, ◌+◌, ◌-◌, ◌*◌, ◌≤◌, ◌<◌}
-use mathlib.Core.Path.{◌≡◌, refl, sym, ◌∙◌}
+use mathlib.Core.Path.{◌≡◌, refl, sym, ap, ◌∙◌}
 use mathlib.Core.Bool.{Bool, true, false, ◌&&◌, ◌||◌, and-true, and-false, false≢true}
 use mathlib.Core.List.{List, [], ◌∷◌}
 use mathlib.Core.Option.{Option, none, some}
@@ -9,54 +12,55 @@ use native.Mathlib.Numerals.{add-one, add-two, add-three}
 use native.Mathlib.Omega.{arith}
 use lib.ListN.{length, drop, get_or, length-drop}
 use lib.Seq.{drop-cons}
-use lib.Dec.{eqb}
+use lib.Dec.{eqb, ltb}
 use Rattle.paper.specs.Bytes.{Bytes, bytes, is_letter, is_upper, is_lower, same_bytes}
+use Rattle.std.specs.Char.{to_ascii_uppercase}
+use borrow.Author.Tests.{ltb-true, ltb-false}
+use Rattle.paper.proofs.Ranges.{within_yes, within_below, within_above}
+use Rattle.paper.specs.Answers.{maybe, maybe_by}
 use Rattle.paper.specs.Texts.{raised}
 use Rattle.paper.specs.Grammar.{Reader, gives}
 use Rattle.paper.specs.Dates.{month_names}
 use Rattle.paper.specs.TypedDates.{month_called, typed_month, typed_letter}
 use Rattle.paper.proofs.Truths.{both}
 use Rattle.dates.specs.Scans.{named}
-use Rattle.dates.proofs.Tables.{names, three, name_at, same_bytes_eq}
+use Rattle.dates.proofs.Tables.{same_bytes_eq}
 
-twelve_names : length month_names ≡ 12
-unfolding month_names
-twelve_names = refl
+-- the number of the month at a place, counted from 0
+abbrev pub month_at_place : Maybe ℕ → Option ℕ
+month_at_place place = maybe_by (λ k. k + 1) place
 
--- the k-th month is asked after
-abbrev pub asked : Bytes → ℕ → Bytes → Option (ℕ × Bytes)
-asked name k rest = month_called name (k + 1) (drop k month_names) rest
-
-at_bytes : (t : Bool) (r q : Reader ℕ) (bs : Bytes) → (if t then r else q) bs ≡ if t then r bs else q bs
-at_bytes true r q bs = refl
-at_bytes false r q bs = refl
-
-asked_is : (name : Bytes) (k : ℕ) (rest : Bytes) → k < 12
-    → asked name k rest ≡ if same_bytes name (three k) then some (suc k, rest) else asked name (k + 1) rest
+called_from : (name : Bytes) (ms : List Bytes) (k : ℕ) (rest : Bytes)
+    → month_called name (k + 1) ms rest ≡ named (month_at_place (position_from (same_bytes name) k ms)) rest
 unfolding month_called
-asked_is name k rest h =
-    rw (add-one k, drop-cons month_names k [] (rw twelve_names h), name_at k h, add-one (suc k))
-    (at_bytes (same_bytes name (three k)) (gives (suc k)) (month_called name (suc (suc k)) (drop (suc k) month_names)) rest)
+called_from name [] k rest = refl
+called_from name (m ∷ ms) k rest = go (same_bytes name m) (called_from name ms (k + 1) rest)
+  where
+    go : (t : Bool) → month_called name (k + 1 + 1) ms rest ≡ named (month_at_place (position_from (same_bytes name) (k + 1) ms)) rest
+        → (if t then gives (k + 1) else month_called name (suc (k + 1)) ms) rest
+        ≡ named (month_at_place (cond t (Some k) (position_from (same_bytes name) (k + 1) ms))) rest
+    go true e = refl
+    go false e = rw add-one at e
 
--- the test that the code makes
-abbrev pub meets : ℕ → ℕ → ℕ → ℕ → Bool
-meets a b c k = eqb a (get_or names (3 * k) 0) && (eqb b (get_or names (3 * k + 1) 0) && eqb c (get_or names (3 * k + 2) 0))
-
-meets_is : (a b c k : ℕ) → same_bytes (a ∷ b ∷ c ∷ []) (three k) ≡ meets a b c k
+-- the library's equality of bytes is the definitions'
+bytes_same : (xs ys : Bytes) → bytes_eq xs ys ≡ same_bytes xs ys
 unfolding same_bytes
-meets_is a b c k = simp and-true
+bytes_same [] [] = refl
+bytes_same [] (y ∷ ys) = refl
+bytes_same (x ∷ xs) [] = refl
+bytes_same (x ∷ xs) (y ∷ ys) = ap (λ t. eqb x y && t) (bytes_same xs ys)
 
-pub called_here : (a b c k : ℕ) (rest : Bytes) → k < 12 → meets a b c k ≡ true → asked (a ∷ b ∷ c ∷ []) k rest ≡ named (k + 1) rest
-unfolding named
-called_here a b c k rest h t = asked_is (a ∷ b ∷ c ∷ []) k rest h ∙ rw (meets_is a b c k, t, add-one)
+position_same : (name : Bytes) (ms : List Bytes) (k : ℕ) → position_from (bytes_eq name) k ms ≡ position_from (same_bytes name) k ms
+position_same name [] k = refl
+position_same name (m ∷ ms) k = rw (bytes_same name m, position_same name ms (k + 1))
 
-pub called_next : (a b c k : ℕ) (rest : Bytes) → k < 12 → meets a b c k ≡ false
-    → asked (a ∷ b ∷ c ∷ []) k rest ≡ asked (a ∷ b ∷ c ∷ []) (k + 1) rest
-called_next a b c k rest h t = asked_is (a ∷ b ∷ c ∷ []) k rest h ∙ rw (meets_is a b c k, t)
-
-pub called_end : (a b c k : ℕ) (rest : Bytes) → k ≡ 12 → asked (a ∷ b ∷ c ∷ []) k rest ≡ named 0 rest
-unfolding named month_called month_names
-called_end a b c k rest h = rw h
+-- what the library's `position` finds
+pub called_at : (name : Bytes) (place : Maybe ℕ)
+    → place ≡ cond (ltb (position_or_len (bytes_eq name) month_names) (length month_names)) (Some (position_or_len (bytes_eq name) month_names)) None
+    → (rest : Bytes) → month_called name 1 month_names rest ≡ named (month_at_place place) rest
+called_at name place e rest =
+    let found : place ≡ position_from (same_bytes name) 0 month_names = e ∙ position_from-zero (bytes_eq name) month_names ∙ position_same name month_names 0 in
+    called_from name month_names 0 rest ∙ ap (λ p. named (month_at_place p) rest) (sym found)
 
 -- names are in capitals, so that no other name is found among them
 abbrev capitals : Bytes → Bool
@@ -143,18 +147,19 @@ month_at text at h =
     )
     (month_is (get_or text at 0) (get_or text (suc at) 0) (get_or text (suc (suc at)) 0) (drop (suc (suc (suc at))) text))
 
+-- the library's capitals are the definitions'
+upper_is : (b : ℕ) → to_ascii_uppercase b ≡ raised b
+unfolding raised is_lower
+upper_is b = go (ltb b 97) (ltb b 123) refl refl
+  where
+    go : (t u : Bool) → ltb b 97 ≡ t → ltb b 123 ≡ u → to_ascii_uppercase b ≡ raised b
+    go true u e f = rw (e, within_below 97 122 b (ltb-true b 97 e))
+    go false true e f = let h : b < 123 = ltb-true b 123 f in rw (e, f, within_yes 97 122 b (ltb-false b 97 e) (omega arith))
+    go false false e f = let h : 123 ≤ b = ltb-false b 123 f in rw (e, f, within_above 97 122 b (omega arith))
+
 -- the answers of `month`
-pub month_found : (text : Bytes) (at a b c m : ℕ) → 3 ≤ length text - at
-    → a ≡ raised (get_or text at 0) → b ≡ raised (get_or text (at + 1) 0) → c ≡ raised (get_or text (at + 2) 0)
-    → ((rest : Bytes) → month_called (a ∷ b ∷ c ∷ []) 1 month_names rest ≡ named m rest)
-    → typed_month (drop at text) ≡ named m (drop (at + 3) text)
-month_found text at a b c m h p q r e = month_at text at h ∙ rw (← p, ← q, ← r) (e (drop (at + 3) text))
-
-pub named_none : (m : ℕ) (rest : Bytes) → m ≡ 0 → named m rest ≡ none
-unfolding named
-named_none m rest h = rw h
-
-pub named_some : (m : ℕ) (rest : Bytes) → (m ≡ 0 → ⊥) → named m rest ≡ some (m, rest)
-unfolding named
-named_some zero rest h = absurd (h refl)
-named_some (suc m) rest h = refl
+pub month_found : (text : Bytes) (at a b c : ℕ) (m : Maybe ℕ) → 3 ≤ length text - at → a ≡ to_ascii_uppercase (get_or text at 0)
+    → b ≡ to_ascii_uppercase (get_or text (at + 1) 0) → c ≡ to_ascii_uppercase (get_or text (at + 2) 0)
+    → ((rest : Bytes) → month_called (a ∷ b ∷ c ∷ []) 1 month_names rest ≡ named (maybe m) rest)
+    → typed_month (drop at text) ≡ named (maybe m) (drop (at + 3) text)
+month_found text at a b c m h p q r e = month_at text at h ∙ rw (← (upper_is (get_or text at 0)), ← (upper_is (get_or text (at + 1) 0)), ← (upper_is (get_or text (at + 2) 0)), ← p, ← q, ← r) (e (drop (at + 3) text))

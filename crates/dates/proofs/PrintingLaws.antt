@@ -10,14 +10,17 @@ use native.Mathlib.Omega.{arith}
 use lib.ListN.{length, take, drop, get_or, set, length-append}
 use lib.Dec.{leb}
 use borrow.Author.Tests.{le-leb, leb-true}
+use Rattle.std.specs.Prelude.{Some, None}
+use Rattle.std.specs.Prelude.{Option as Maybe}
+use Rattle.std.specs.Option.{SomeIff, ok_or}
+use Rattle.paper.specs.declared.Refusal.{Refusal}
 use Rattle.paper.specs.Bytes.{Bytes}
 use Rattle.paper.specs.Sizes.{entry_most}
 use Rattle.paper.specs.Refusals.{Res, given, refused, refuse◌unless◌, ◌>>=◌, ◌>>◌}
-use Rattle.paper.specs.Answers.{given_of, written}
+use Rattle.paper.specs.Answers.{told, sized, written}
 use Rattle.paper.specs.Numbers.{Number, numeric, digits}
 use Rattle.paper.specs.Steps.{limited}
 use Rattle.paper.specs.Dates.{Date, month_names, ranged_day, year_text, date_of, date_text, date_gives}
-use Rattle.paper.specs.declared.Given.TheVariants.{Length, Refused}
 use Rattle.paper.proofs.Calendar.{calendar_parts, date_of_in_calendar}
 use Rattle.paper.proofs.Numerals.{length_digits}
 use Rattle.lent.specs.Over.{over, Laid}
@@ -26,22 +29,12 @@ use Rattle.lent.proofs.Laying.{laid_at, laid_one, laid_behind}
 use Rattle.numbers.specs.Forms.{convertible}
 use Rattle.numbers.proofs.FormLaws.{empty_stays, converts}
 use Rattle.dates.specs.declared.Date.{Date as CodedDate}
-use Rattle.dates.specs.declared.Ranged.{Ranged}
-use Rattle.dates.specs.Dated.{code_date, ranged_of, ranged_refusal}
-use Rattle.dates.specs.Scans.{dated_text}
-use Rattle.dates.proofs.Tables.{names, name_at, part_at}
+use Rattle.dates.specs.Dated.{code_date, dated_text}
+use Rattle.dates.proofs.Tables.{name_long}
 
 -- digits laid over a buffer
 pub digits_laid : (d : Bytes) (at k n : ℕ) → take at d ++ digits k n ++ drop (at + k) d ≡ over d at (digits k n)
 digits_laid d at k n = over_as d at (digits k n) (length_digits k n)
-
--- the answer of `name_text`
-pub name_laid : (held last : Bytes) (month : ℕ) → 1 ≤ month → month ≤ 12
-    → last ≡ over held 3 (take (3 * (month - 1) + 3 - 3 * (month - 1)) (drop (3 * (month - 1)) names))
-    → last ≡ over held 3 (get_or month_names (pred month) [])
-name_laid held last month h k e =
-    let long : 3 * (month - 1) + 3 - 3 * (month - 1) ≡ 3 = omega arith in
-    e ∙ rw (long, part_at (month - 1) (omega arith), sub-one)
 
 -- the answers of `year_text`
 pub year_none : (held : Bytes) (at n s year : ℕ) → n ≡ 0 → record { value : 0 ≡ length (year_text n s year); out_after : held ≡ over held at (year_text n s year) }
@@ -62,9 +55,6 @@ pub year_most : (n s year : ℕ) → n ≤ 4 → length (year_text n s year) ≤
 unfolding year_text
 year_most zero s year h = omega arith
 year_most (suc n) s year h = omega (arith, length_digits (suc n) year)
-
-name_long : (k : ℕ) → k < 12 → length (get_or month_names k []) ≡ 3
-name_long k h = ap length (name_at k h)
 
 -- the answers of `date_text`
 pub lettered_laid : (held one two last : Bytes) (n r : ℕ) (d : Date) → 1 ≤ d.month → d.month ≤ 12
@@ -104,35 +94,33 @@ reach x = by_sign x.negative
     by_sign true = in_range (leb x.size 718_430) (λ t. omega (arith, leb-true x.size 718_430 t))
     by_sign false = in_range (leb x.size 2_933_628) (λ t. omega (arith, leb-true x.size 2_933_628 t))
 
-day_reached : {r : Res ℕ} {day : ℕ} → Reached r → ranged_of r ≡ Ranged.Day day → (r ≡ given day) × (day ≤ 3_652_058)
-unfolding ranged_of
-day_reached {day} (reached {day = d} h) e = let same : d ≡ day = cc in (ap given same, omega arith)
-day_reached outside e = let z : ◌≡◌ {A = ℕ} 0 1 = cc in absurd (omega arith)
+-- the day of a number below zero, by the library's `checked_sub`
+pub before_zero : (size : ℕ) (r : Maybe ℕ) → SomeIff r (size ≤ 718_430) (718_430 - size)
+    → told (ok_or r Refusal.OutOfRange) ≡ ((refuse 10 unless leb size 718_430) >> given (718_430 - size))
+before_zero size None h = go (leb size 718_430) refl
+  where
+    go : (t : Bool) → leb size 718_430 ≡ t → refused 10 ≡ ((refuse 10 unless t) >> given (718_430 - size))
+    go true e = absurd (h (leb-true size 718_430 e))
+    go false e = refl
+before_zero size (Some day) h = rw (le-leb size 718_430 h.0) (ap given h.1)
 
--- the refusal's number is passed up
-day_refused : (v : Res ℕ) {r : Ranged} {n m : ℕ} → r ≡ ranged_of v → r ≡ Ranged.Refused n → m ≡ ranged_refusal r → v ≡ refused m
-unfolding ranged_of
-day_refused (given day) e f k = cc
-day_refused (refused j) e f k = ap refused (sym (k ∙ ap ranged_refusal e))
-
-pub day_in_range : (x : Number) (r : Ranged) {day : ℕ} → r ≡ ranged_of (ranged_day x) → r ≡ Ranged.Day day
-    → (ranged_day x ≡ given day) × (day ≤ 3_652_058)
-day_in_range x r e f = day_reached (reach x) (sym e ∙ f)
+-- a day that is given is in range
+pub day_in_range : (x : Number) {day : ℕ} → ranged_day x ≡ given day → day ≤ 3_652_058
+day_in_range x e = go (reach x) e
+  where
+    go : {r : Res ℕ} {day : ℕ} → Reached r → r ≡ given day → day ≤ 3_652_058
+    go {day = day} (reached {day = d} h) e = let same : d ≡ day = cc in omega arith
+    go outside e = let z : ◌≡◌ {A = ℕ} 0 1 = cc in absurd (omega arith)
 
 pub date_month : (day : ℕ) (d : CodedDate) → d ≡ code_date (date_of day) → (1 ≤ d.month) × (d.month ≤ 12)
 date_month day d e = let p = calendar_parts (date_of day) (date_of_in_calendar day) in rw e (p.month_first, p.month_last)
 
--- the answers of `number_dated`
-pub dated_refused : (held : Bytes) (n : ℕ) (s : Option ℕ) (x : Number) (r : Ranged) {k m : ℕ} → r ≡ ranged_of (ranged_day x) → r ≡ Ranged.Refused k
-    → m ≡ ranged_refusal r → record { value : Refused m ≡ given_of (dated_text n s (ranged_day x)); out_after : held ≡ written held (dated_text n s (ranged_day x)) }
-unfolding dated_text given_of written
-dated_refused held n s x r e f k = rw (day_refused (ranged_day x) e f k) (record { value = refl; out_after = refl })
-
+-- the answer of `number_dated`
 pub dated_given : (held last : Bytes) (n r : ℕ) (s : Option ℕ) (x : Number) (day : ℕ) (d : Date) → ranged_day x ≡ given day → d ≡ date_of day
     → r ≡ length (date_text n s d) → last ≡ over held 0 (date_text n s d)
-    → record { value : Length r ≡ given_of (dated_text n s (ranged_day x)); out_after : last ≡ written held (dated_text n s (ranged_day x)) }
-unfolding dated_text given_of written
-dated_given held last n r s x day d e f p q = rw (e, ← f) (record { value = ap Length p; out_after = q ∙ over_front held (date_text n s d) })
+    → record { value : given r ≡ sized (dated_text n s (ranged_day x)); out_after : last ≡ written held (dated_text n s (ranged_day x)) }
+unfolding written
+dated_given held last n r s x day d e f p q = rw (e, ← f) (record { value = ap given p; out_after = q ∙ over_front held (date_text n s d) })
 
 -- no date is longer than a result may be
 text_most : (n : ℕ) (s : Option ℕ) (d : Date) → n ≤ 4 → 1 ≤ d.month → d.month ≤ 12 → length (date_text n s d) ≤ 11
@@ -143,7 +131,7 @@ text_most n none d k m m' =
 text_most n (some s) d k m m' = omega (arith, year_most n s d.year k)
 
 limited_dated : (n : ℕ) (s : Option ℕ) {r : Res ℕ} → n ≤ 4 → Reached r → limited entry_most (dated_text n s r) ≡ dated_text n s r
-unfolding limited entry_most dated_text
+unfolding limited entry_most
 limited_dated n s k (reached {day} h) =
     let p = calendar_parts (date_of day) (date_of_in_calendar day) in
     rw (le-leb (length (date_text n s (date_of day))) 1_024 (omega (arith, text_most n s (date_of day) k p.month_first p.month_last)))
@@ -151,7 +139,7 @@ limited_dated n s k outside = refl
 
 -- "Empty stays empty"
 pub limited_empty : (n : ℕ) (s : Option ℕ) (e : Bytes) → length e ≡ 0 → limited entry_most (date_gives n s e) ≡ given []
-unfolding limited entry_most date_gives dated_text
+unfolding limited entry_most date_gives
 limited_empty n s e h = ap (limited entry_most) (empty_stays (λ x. dated_text n s (ranged_day x)) e h)
 
 limited_number : (n : ℕ) (s : Option ℕ) (v : Res Number) → n ≤ 4
@@ -163,5 +151,5 @@ limited_number n s (refused m) k = refl
 -- the answers of `give`
 pub gives_by : (n : ℕ) (s : Option ℕ) (e : Bytes) {v : Res Number} → n ≤ 4 → (length e ≡ 0 → ⊥) → convertible (numeric e) ≡ v
     → limited entry_most (date_gives n s e) ≡ (v >>= λ x. dated_text n s (ranged_day x))
-unfolding date_gives dated_text
+unfolding date_gives
 gives_by n s e {v} k h f = ap (limited entry_most) (converts (λ x. dated_text n s (ranged_day x)) e h f) ∙ limited_number n s v k

@@ -1,6 +1,8 @@
 -- Any two outcomes that a contract of this crate allows are equal: each call's answer, and what the lent buffer holds afterwards.
-use mathlib.Core.Path.{◌≡◌, sym, ◌∙◌}
+use mathlib.Core.Path.{◌≡◌, refl, sym, ◌∙◌}
 use contract.Lifetimes.{Lfts}
+use Rattle.numbers.specs.Forms.{whole, coded}
+use Rattle.paper.proofs.Telling.{told_by_same, told_same}
 use Rattle.dates.proofs.calendar.date_of.Reads as date_of
 use Rattle.dates.proofs.calendar.days_to.Reads as days_to
 use Rattle.dates.proofs.calendar.in_calendar.Reads as in_calendar
@@ -18,7 +20,7 @@ in_calendar_settled κs a r r' e e' p q = p ∙ sym q
 
 give_settled : (κs : Lfts 2) → (a : _) (r r' : _) (e e' : _) → give.Post κs a r e → give.Post κs a r' e'
     → (r ≡ r') × (e.1.1.1.0.now ≡ e'.1.1.1.0.now)
-give_settled κs a r r' e e' p q = (p.0 ∙ sym q.0, p.1 ∙ sym q.1)
+give_settled κs a r r' e e' p q = (told_same r r' (p.0 ∙ sym q.0), p.1 ∙ sym q.1)
 
 typed_date_settled : (κs : Lfts 1) → (a : _) (r r' : _) (e e' : _) → typed_date.Post κs a r e → typed_date.Post κs a r' e' → r ≡ r'
-typed_date_settled κs a r r' e e' p q = p ∙ sym q
+typed_date_settled κs a r r' e e' p q = told_by_same whole coded (λ x. refl) r r' (p ∙ sym q)

@@ -1,52 +1,42 @@
 -- The readers of a typed date, piece by piece: each is what its first digit, letter or separator decides. Assumes nothing.
 use Rattle.std.specs.Prelude.{if◌then◌else◌}
-use Prim.Native.Nat.{ℕ, zero, suc, ◌+◌, ◌*◌, ◌≤◌}
+use Prim.Native.Nat.{ℕ, zero, suc, ◌+◌, ◌*◌, ◌-◌, ◌≤◌, ◌<◌}
 use mathlib.Core.Path.{◌≡◌, refl, ◌∙◌, ap}
 use mathlib.Core.Bool.{Bool, true, false}
 use mathlib.Core.List.{[], ◌∷◌}
 use mathlib.Core.Option.{Option, none, some}
 use native.Mathlib.Omega.{arith}
-use lib.ListN.{length, drop}
+use lib.ListN.{length, drop, get_or, drop_of_length-le}
+use lib.Seq.{drop-cons}
+use native.Mathlib.Numerals.{add-one}
 use Rattle.paper.specs.Bytes.{Bytes, is_digit, digit_value}
 use Rattle.paper.specs.Grammar.{Reader, follow, all_read, ahead, this, numeral, more_digits}
-use Rattle.dates.specs.declared.Read.{Read}
-use Rattle.dates.specs.declared.Read.TheVariants.{Found}
-use Rattle.dates.specs.Scans.{found, Within, read_refusal, further, parting, second, ordered, dated, form, day_of}
+use Rattle.std.specs.Prelude.{Result, Ok, Err}
+use Rattle.paper.specs.Refusals.{Res}
+use Rattle.paper.specs.Numbers.{Number, plus, natural, signed}
+use Rattle.std.specs.Int.{abs_diff}
+use lib.Dec.{leb, ltb}
+use borrow.Author.Tests.{leb-true, leb-false, le-ltb, lt-ltb}
+use Rattle.paper.specs.declared.Read.{Read}
+use Rattle.paper.specs.declared.Refusal.{Refusal}
+use Rattle.dates.specs.Scans.{found, Within, further, parting, second, ordered, ended, form}
 use Rattle.paper.specs.Dates.{Date}
-use Rattle.dates.specs.declared.TypedDay.{TypedDay}
-use Rattle.dates.specs.declared.TypedDay.TheVariants.{Refused}
-use Rattle.dates.specs.Dated.{typed_of}
-use Rattle.paper.specs.TypedDates.{typed_digit, typed_pair, typed_year, typed_form, typed, century}
+use Rattle.paper.specs.TypedDates.{typed_digit, typed_pair, typed_year, typed_form, typed, dated, century}
 
--- what a call that found something has read, and within which bounds
-pub record Seen (x : Option (ℕ × Bytes)) (most : ℕ) (text : Bytes) (value next : ℕ) : Type 0 where
-  pub reads : x ≡ some (value, drop next text)
-  pub small : value ≤ most
-  pub inside : next ≤ length text
-
--- what a call ensures of what it found
-abbrev pub Told : Option (ℕ × Bytes) → ℕ → Bytes → Read → Type 0
+-- what a reader finds and within which bounds, by what its code answers
+abbrev pub Told : Option (ℕ × Bytes) → ℕ → Bytes → Result (Read ℕ) Refusal → Type 0
 Told x most text r = record { reads : x ≡ found text r; within : Within most text r }
 
-pub seen : {x : Option (ℕ × Bytes)} {most : ℕ} {text : Bytes} (r : Read) {value next : ℕ}
-    → Told x most text r → r ≡ Found value next → Seen x most text value next
-unfolding found
-seen {x} {most} {text} r e f =
-    let w = rw f at e.within in
-    record { reads = e.reads ∙ ap (found text) f; small = w.0; inside = w.1 }
+pub within_more : {m n : ℕ} (text : Bytes) (r : Result (Read ℕ) Refusal) → m ≤ n → Within m text r → Within n text r
+within_more text (Ok r) h w = (omega arith, w.1)
+within_more text (Err e) h w = w
 
--- and one that was refused: nothing is read, and its number is 12
-pub unseen : {x : Option (ℕ × Bytes)} (text : Bytes) (r : Read) {n : ℕ} → x ≡ found text r → r ≡ Read.Refused n → x ≡ none
-unfolding found
-unseen text r e f = e ∙ ap (found text) f
+-- the byte at a place, and what stands behind it
+pub ahead_is : (text : Bytes) (at b : ℕ) → at < length text → ((d : ℕ) → b ≡ get_or text at d) → drop at text ≡ b ∷ drop (at + 1) text
+ahead_is text at b h e = rw (drop-cons text at 0 h, add-one, e 0)
 
-pub day_passed : (most : ℕ) {n m : ℕ} (text : Bytes) (r : Read) → Within most text r → r ≡ Read.Refused n → m ≡ read_refusal r → Refused m ≡ day_of none
-unfolding day_of typed_of
-day_passed most {n} text r w f k = let e : n ≡ 12 = rw f at w in ap Refused (k ∙ ap read_refusal f ∙ e)
-
-pub within_more : {m n : ℕ} (text : Bytes) (r : Read) → m ≤ n → Within m text r → Within n text r
-within_more text (Found value next) h w = (omega arith, w.1)
-within_more text (Read.Refused n) h w = w
+pub ahead_none : (text : Bytes) (at : ℕ) → length text ≤ at → drop at text ≡ []
+ahead_none text at h = drop_of_length-le text {i = at} h
 
 -- a reader that looks for a digit goes on as one digit more decides
 abbrev pub either : {A : Type 0} → Option (ℕ × Bytes) → (ℕ → Reader A) → Option (A × Bytes) → Option (A × Bytes)
@@ -130,7 +120,6 @@ year_is bs =
 -- a piece and its separator
 parting_then : {B : Type 0} (s : ℕ) (r : Option (ℕ × Bytes)) (k : ℕ → Reader B)
     → follow r (λ x bs. follow (this s bs) (λ _. k x)) ≡ follow (follow r (parting s)) k
-unfolding parting
 parting_then s none k = refl
 parting_then {B} s (some r) k = go (this s r.1)
   where
@@ -140,48 +129,42 @@ parting_then {B} s (some r) k = go (this s r.1)
 
 -- what follows the first piece
 abbrev pub second_piece : Bool → ℕ → ℕ → Reader Date
-second_piece letters s a rest = follow (follow (second letters rest) (parting s)) (λ b end. follow (typed_year end) (dated letters a b))
+second_piece letters s a rest = follow (follow (second letters rest) (parting s)) (λ b end. follow (typed_year end) (ended letters a b))
 
 pub form_is : (letters : Bool) (s : ℕ) (text : Bytes) → form letters s text ≡ follow (follow (typed_pair text) (parting s)) (second_piece letters s)
-unfolding form dated
+unfolding form
 form_is letters s text =
     follow_same (typed_pair text) _ _
-    (λ a rest. follow_same (this s rest) _ _ (λ _ bs. parting_then s (second letters bs) (λ b end. follow (typed_year end) (dated letters a b))))
+    (λ a rest. follow_same (this s rest) _ _ (λ _ bs. parting_then s (second letters bs) (λ b end. follow (typed_year end) (ended letters a b))))
     ∙ parting_then s (typed_pair text) (second_piece letters s)
-
--- without a separator the month has letters and blanks part the pieces
-pub form_blank : (text : Bytes) → form true 32 text ≡ typed_form none text
-unfolding form second ordered typed_form
-form_blank text = refl
-
-pub form_byte : (s : ℕ) (text : Bytes) → form false s text ≡ typed_form (some s) text
-unfolding form second ordered typed_form
-form_byte s text = refl
-
--- a piece whose separator was asked for
-pub joined : {x : Option (ℕ × Bytes)} (text : Bytes) (r p : Read) (s : ℕ) → x ≡ found text r
-    → follow (found text r) (parting s) ≡ found text p → follow x (parting s) ≡ found text p
-joined text r p s e f = rw e f
 
 -- the year of a date in either order
 pub ordered_year : (letters : Bool) (a b year : ℕ) → (ordered letters a b year).year ≡ year
-unfolding ordered
 ordered_year true a b year = refl
 ordered_year false a b year = refl
 
--- the answers of `typed_date`
-typed_any : (n : ℕ) (s : Option ℕ) (text : Bytes) (r : TypedDay) → (n ≡ 0 → ⊥) → r ≡ day_of (all_read (typed_form s text))
-    → r ≡ typed_of (typed n s text)
-unfolding typed day_of
-typed_any zero s text r h e = absurd (h refl)
-typed_any (suc n) s text r h e = e ∙ go (all_read (typed_form s text)) refl
+-- the day counted from day zero
+pub from_day_zero : (n : ℕ) → record { negative = ltb n 718_430; size = abs_diff n 718_430 } ≡ plus (natural n) (signed true 718_430)
+unfolding plus natural signed
+from_day_zero n = go (leb 718_430 n) refl
   where
-    go : (d : Option Date) → all_read (typed_form s text) ≡ d → day_of d ≡ typed_of (typed (suc n) s text)
-    go none e = rw e
-    go (some d) e = rw e
+    go : (t : Bool) → leb 718_430 n ≡ t → ◌≡◌ {A = Number} (record { negative = ltb n 718_430; size = abs_diff n 718_430 }) (plus (natural n) (signed true 718_430))
+    go true e =
+        let h : 718_430 ≤ n = leb-true _ _ e in
+        let size : abs_diff n 718_430 ≡ n - 718_430 = omega arith in
+        rw (e, le-ltb n 718_430 h, size)
+    go false e =
+        let h : n < 718_430 = leb-false _ _ e in
+        let size : abs_diff n 718_430 ≡ 718_430 - n = omega arith in
+        rw (e, lt-ltb n 718_430 h, size, lt-ltb 0 (718_430 - n) (omega arith))
 
-pub typed_absent : (n : ℕ) (text : Bytes) (r : TypedDay) → (n ≡ 0 → ⊥) → r ≡ day_of (all_read (form true 32 text)) → r ≡ typed_of (typed n none text)
-typed_absent n text r h e = typed_any n none text r h (rw form_blank at e)
+-- the day that a text names, for any n but 0: without a separator the month has letters and blanks part the pieces
+pub typed_blank : (n : ℕ) (text : Bytes) → (n ≡ 0 → ⊥) → typed n none text ≡ dated (all_read (form true 32 text))
+unfolding typed form typed_form
+typed_blank zero text h = absurd (h refl)
+typed_blank (suc n) text h = refl
 
-pub typed_byte : (n s : ℕ) (text : Bytes) (r : TypedDay) → (n ≡ 0 → ⊥) → r ≡ day_of (all_read (form false s text)) → r ≡ typed_of (typed n (some s) text)
-typed_byte n s text r h e = typed_any n (some s) text r h (rw form_byte at e)
+pub typed_byte : (n s : ℕ) (text : Bytes) → (n ≡ 0 → ⊥) → typed n (some s) text ≡ dated (all_read (form false s text))
+unfolding typed form typed_form
+typed_byte zero s text h = absurd (h refl)
+typed_byte (suc n) s text h = refl

@@ -11,39 +11,30 @@ pub(crate) const DAY_ZERO: u64 = 718_430;
 
 pub(crate) const LAST_DAY: u64 = 2_933_628;
 
-// The months' names, three letters each.
-pub(crate) const NAMES: [u8; 36] = *b"JANFEBMARAPRMAYJUNJULAUGSEPOCTNOVDEC";
+// The months' names. Document 01's form: a constant table.
+pub(crate) const NAMES: [[u8; 3]; 12] = [
+    *b"JAN", *b"FEB", *b"MAR", *b"APR", *b"MAY", *b"JUN", *b"JUL", *b"AUG", *b"SEP", *b"OCT",
+    *b"NOV", *b"DEC",
+];
 
-// The lengths of the months of a common year.
+// The lengths of the months of a common year. Document 01's form: a constant table.
 const LENGTHS: [u64; 12] = [31, 28, 31, 30, 31, 30, 31, 31, 30, 31, 30, 31];
 
 // "Gregorian rules both ways"
+#[tactic(auto, unfolding(paper::specs::Dates::leap))]
 fn leap(year: u64) -> bool
     ensures { result ≡ leap year }
 {
     (year % 4 == 0) & ((year % 100 != 0) | (year % 400 == 0))
 }
 
-// the day that a leap year has more, where it counts
-fn leap_day(counts: bool) -> u64
-    ensures { result ≡ (if counts then 1 else 0) }
-{
-    if counts { 1 } else { 0 }
-}
-
-// the days that February lacks of 30 in a common year, where they count
-fn lacking(counts: bool) -> u64
-    ensures { result ≡ (if counts then 2 else 0) }
-{
-    if counts { 2 } else { 0 }
-}
-
 // how many days the month has, months counted from 0
+#[tactic(auto, using(crate::proofs::Tables::length_at))]
 fn month_length(year: u64, month: u64) -> u64
     requires { month < 12 }
     ensures { result ≡ get_or (month_lengths year) month 0 }
 {
-    LENGTHS[month as usize] + leap_day(leap(year) & (month == 1))
+    LENGTHS[month as usize] + u64::from(leap(year) & (month == 1))
 }
 
 // the days of the year before the month, months counted from 0; before month 12, the whole year
@@ -53,10 +44,11 @@ fn days_before_month(year: u64, month: u64) -> u64
 {
     // With 30 days in February, seven months would have 31 and five 30, evenly spread: (7 m + 5) / 12 of the seven come before month m.
     // So 30 m + (7 m + 5) / 12 = (367 m + 5) / 12 days would come before it; from March on 2 fewer do, as February has 28, in a leap year 1, as it has 29.
-    (367 * month + 5) / 12 + leap_day((1 < month) & leap(year)) - lacking(1 < month)
+    (367 * month + 5) / 12 + u64::from((1 < month) & leap(year)) - 2 * u64::from(1 < month)
 }
 
 // the days from 1 January of year 1 to 1 January of the year
+#[tactic(auto, unfolding(paper::specs::Dates::days_before_year))]
 fn days_before_year(year: u64) -> u64
     requires { (1 ≤ year) × (year ≤ 10_000) }
     ensures { result ≡ days_before_year year }
@@ -66,6 +58,7 @@ fn days_before_year(year: u64) -> u64
 }
 
 // the year of day n, without a loop: 400 years have 146,097 days, so that a division gives it or the one before
+#[tactic(auto, using(crate::proofs::CalendarLaws::year_next, crate::proofs::CalendarLaws::year_same))]
 fn year_of(n: u64) -> u64
     requires { n ≤ day_zero + last_day }
     ensures { result ≡ year_of n }
@@ -84,7 +77,7 @@ fn month_day(year: u64, n: u64) -> Date
     ensures { result ≡ code_date (month_day year 1 (month_lengths year) n) }
 {
     let from_march = days_before_month(year, 2) <= n;
-    let d = n + lacking(from_march) - leap_day(from_march & leap(year));
+    let d = n + 2 * u64::from(from_march) - u64::from(from_march & leap(year));
     let month = (12 * d + 6) / 367;
     Date {
         year,
@@ -111,13 +104,11 @@ pub(crate) fn days_to(d: Date) -> u64
 }
 
 // whether the calendar has the date
+#[tactic(auto, unfolding(paper::specs::TypedDates::in_calendar))]
 pub(crate) fn in_calendar(d: Date) -> bool
     ensures { result ≡ in_calendar (paper_date d) }
 {
-    if d.month < 1 {
-        return false;
-    }
-    if 12 < d.month {
+    if !(1..=12).contains(&d.month) {
         return false;
     }
     (0 < d.year) & ((1 <= d.day) & (d.day <= month_length(d.year, d.month - 1)))

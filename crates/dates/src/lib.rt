@@ -7,59 +7,10 @@ mod calendar;
 pub mod printing;
 pub mod typing;
 
-ghost use Rattle.std.specs.Prelude.{◌≡◌};
-ghost use Rattle.dates.specs.Dated.{ranged_refusal};
-ghost use Rattle.dates.specs.Scans.{read_refusal};
-
 // A date of the calendar.
 #[derive(Clone, Copy)]
 struct Date {
     year: u64,
     month: u64,
     day: u64,
-}
-
-// What a typed date names: a day, by its sign and its size, or a refusal's number.
-#[derive(Clone, Copy)]
-pub enum TypedDay {
-    Day { negative: bool, size: u64 },
-    Refused(u64),
-}
-
-// A day of the calendar, counted from 1 January of year 1, or a refusal's number.
-#[derive(Clone, Copy)]
-enum Ranged {
-    Day(u64),
-    Refused(u64),
-}
-
-impl Ranged {
-    // the number to pass up where this is a refusal
-    fn refusal(self) -> u64
-        ensures { result ≡ ranged_refusal self }
-    {
-        match self {
-            Ranged::Day(_) => 0,
-            Ranged::Refused(number) => number,
-        }
-    }
-}
-
-// What a reader finds at a place of a text: a number and the place after it, or a refusal's number.
-#[derive(Clone, Copy)]
-enum Read {
-    Found { value: u64, next: usize },
-    Refused(u64),
-}
-
-impl Read {
-    // the number to pass up where this is a refusal
-    fn refusal(self) -> u64
-        ensures { result ≡ read_refusal self }
-    {
-        match self {
-            Read::Found { value: _, next: _ } => 0,
-            Read::Refused(number) => number,
-        }
-    }
 }

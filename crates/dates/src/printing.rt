@@ -1,80 +1,71 @@
 // What D prints of an element: `DD MMM YYYY`, or `MMsDDsYYYY`.
 ghost use Rattle.std.specs.Prelude.{[], ◌∷◌, ◌++◌, ◌≡◌, pred, ◌+◌, ◌≤◌, length, get_or};
 ghost use Rattle.paper.specs.Sizes.{entry_most};
-ghost use Rattle.paper.specs.Answers.{given_of, written};
+ghost use Rattle.paper.specs.Answers.{told, sized, maybe, written};
 ghost use Rattle.paper.specs.Numbers.{digits};
 ghost use Rattle.paper.specs.Steps.{limited};
 ghost use Rattle.paper.specs.Dates.{month_names, ranged_day, year_text, date_text, date_gives};
 ghost use Rattle.lent.specs.Over.{over};
 ghost use Rattle.numbers.specs.Forms.{whole};
-ghost use Rattle.codes.specs.Meaning.{separator_of};
-ghost use Rattle.dates.specs.Dated.{paper_date, ranged_of};
-ghost use Rattle.dates.specs.Scans.{dated_text};
+ghost use Rattle.dates.specs.Dated.{paper_date, dated_text};
 
-use crate::{Date, Ranged, calendar};
-use codes::Separator;
-use numbers::{Number, Reckoned};
-use paper::Given;
+use crate::{Date, calendar};
+use numbers::Number;
+use paper::Refusal;
 
 // "Empty stays empty; other non-numeric is 12."; 9 is never given, since no date has more than 11 bytes
-pub fn give(e: &[u8], n: u64, separator: Separator, out: &mut [u8]) -> Given
+pub fn give(e: &[u8], n: u64, separator: Option<u8>, out: &mut [u8]) -> Result<usize, Refusal>
     requires { (entry_most ≤ length out.old) × (n ≤ 4) }
-    ensures value { result ≡ given_of (limited entry_most (date_gives n (separator_of separator) e.now)) }
-    ensures out_after { out.new ≡ written out.old (limited entry_most (date_gives n (separator_of separator) e.now)) }
+    ensures value { told result ≡ sized (limited entry_most (date_gives n (maybe separator) e.now)) }
+    ensures out_after { out.new ≡ written out.old (limited entry_most (date_gives n (maybe separator) e.now)) }
 {
-    if e.len() == 0 {
-        return Given::Length(0);
+    if e.is_empty() {
+        return Ok(0);
     }
-    let element = numbers::reading::convertible(e);
-    let Reckoned::Number(x) = element else {
-        return Given::Refused(element.refusal());
-    };
-    number_dated(x, n, separator, out)
+    number_dated(numbers::reading::convertible(e)?, n, separator, out)
 }
 
 // the date of a number's day
-fn number_dated(x: Number, n: u64, separator: Separator, out: &mut [u8]) -> Given
+#[tactic(auto, unfolding(paper::specs::Answers::written), using(crate::proofs::PrintingLaws::day_in_range, crate::proofs::PrintingLaws::date_month))]
+fn number_dated(x: Number, n: u64, separator: Option<u8>, out: &mut [u8]) -> Result<usize, Refusal>
     requires { (11 ≤ length out.old) × (n ≤ 4) }
-    ensures value { result ≡ given_of (dated_text n (separator_of separator) (ranged_day (whole x))) }
-    ensures out_after { out.new ≡ written out.old (dated_text n (separator_of separator) (ranged_day (whole x))) }
+    ensures value { told result ≡ sized (dated_text n (maybe separator) (ranged_day (whole x))) }
+    ensures out_after { out.new ≡ written out.old (dated_text n (maybe separator) (ranged_day (whole x))) }
 {
-    let ranged = ranged_day(x);
-    let Ranged::Day(day) = ranged else {
-        return Given::Refused(ranged.refusal());
-    };
-    Given::Length(date_text(calendar::date_of(day), n, separator, out))
+    let day = ranged_day(x)?;
+    Ok(date_text(calendar::date_of(day), n, separator, out))
 }
 
 // a day counted from 1 January of year 1; 10 for a "day outside its range"
-fn ranged_day(x: Number) -> Ranged
-    ensures { result ≡ ranged_of (ranged_day (whole x)) }
+#[tactic(auto, unfolding(paper::specs::Dates::ranged_day))]
+fn ranged_day(x: Number) -> Result<u64, Refusal>
+    ensures { told result ≡ ranged_day (whole x) }
 {
-    let size = x.size;
     if x.negative {
-        if size <= calendar::DAY_ZERO {
-            return Ranged::Day(calendar::DAY_ZERO - size);
-        }
-        return Ranged::Refused(paper::refusal::OUT_OF_RANGE);
+        return calendar::DAY_ZERO
+            .checked_sub(x.size)
+            .ok_or(Refusal::OutOfRange);
     }
-    if size <= calendar::LAST_DAY {
-        return Ranged::Day(calendar::DAY_ZERO + size);
+    if x.size <= calendar::LAST_DAY {
+        return Ok(calendar::DAY_ZERO + x.size);
     }
-    Ranged::Refused(paper::refusal::OUT_OF_RANGE)
+    Err(Refusal::OutOfRange)
 }
 
 // "Without s `DD MMM YYYY`, with s `MMsDDsYYYY`"
-fn date_text(d: Date, n: u64, separator: Separator, out: &mut [u8]) -> usize
+#[tactic(auto, using(crate::proofs::PrintingLaws::year_most))]
+fn date_text(d: Date, n: u64, separator: Option<u8>, out: &mut [u8]) -> usize
     requires { (11 ≤ length out.old) × (n ≤ 4) × (1 ≤ d.month) × (d.month ≤ 12) }
-    ensures value { result ≡ length (date_text n (separator_of separator) (paper_date d)) }
-    ensures out_after { out.new ≡ over out.old 0 (date_text n (separator_of separator) (paper_date d)) }
+    ensures value { result ≡ length (date_text n (maybe separator) (paper_date d)) }
+    ensures out_after { out.new ≡ over out.old 0 (date_text n (maybe separator) (paper_date d)) }
 {
     match separator {
-        Separator::Absent => {
+        None => {
             pair_text(d.day, b' ', out);
             name_text(d.month, out);
             year_text(n, b' ', d.year, out, 6) + 6
         }
-        Separator::Byte(s) => {
+        Some(s) => {
             pair_text(d.month, s, out);
             numbers::writing::digits(d.day, 2, out, 3);
             year_text(n, s, d.year, out, 5) + 5
@@ -96,10 +87,7 @@ fn name_text(month: u64, out: &mut [u8])
     requires { (6 ≤ length out.old) × (1 ≤ month) × (month ≤ 12) }
     ensures { out.new ≡ over out.old 3 (get_or month_names (pred month) []) }
 {
-    let names = calendar::NAMES;
-    let from = 3 * (month - 1) as usize;
-    let to = from + 3;
-    lent::copy_in(&names[from..to], out, 3);
+    lent::copy_in(&calendar::NAMES[(month - 1) as usize], out, 3);
 }
 
 // "the year's last n digits, of its four with zeros in front; n = 0 drops the year and the separator before it"

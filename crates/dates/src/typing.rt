@@ -1,10 +1,10 @@
 // Typed dates: each piece is read where it stands, with one byte of look-ahead.
-ghost use Rattle.std.specs.Prelude.{true, List, [], ◌∷◌, ◌≡◌, ℕ, ◌+◌, ◌*◌, ◌≤◌, length, drop};
+// A digit and a separator are read here and not by crates/readers: dates refuse with 12, and stand on no reader of codes.
+ghost use Rattle.std.specs.Prelude.{true, List, ◌≡◌, ℕ, ◌+◌, ◌*◌, ◌≤◌, length, drop, IfSome};
 ghost use Rattle.std.proofs.Math.Option.{some};
-ghost use Rattle.paper.specs.Refusals.{given};
+ghost use Rattle.paper.specs.Answers.{told_by, maybe};
 ghost use Rattle.paper.specs.Numbers.{plus, natural, signed};
-ghost use Rattle.paper.specs.Texts.{raised};
-ghost use Rattle.paper.specs.Grammar.{follow, all_read};
+ghost use Rattle.paper.specs.Grammar.{all_read};
 ghost use Rattle.paper.specs.Dates.{month_names, day_zero};
 ghost use Rattle.paper.specs.TypedDates.{
   typed_pair,
@@ -12,51 +12,45 @@ ghost use Rattle.paper.specs.TypedDates.{
   typed_year,
   month_called,
   typed_month,
+  dated,
   typed,
 };
-ghost use Rattle.codes.specs.Meaning.{separator_of};
-ghost use Rattle.dates.specs.Dated.{paper_date, code_date, typed_of};
-ghost use Rattle.dates.specs.Scans.{found, Within, further, parting, second, ordered, dated, form, named, day_of};
+ghost use Rattle.numbers.specs.Forms.{whole};
+ghost use Rattle.dates.specs.Dated.{paper_date, code_date};
+ghost use Rattle.dates.specs.Scans.{found, Within, further, parting, second, ordered, ended, form, named};
 
-use crate::{Date, Read, TypedDay, calendar};
-use codes::Separator;
+use crate::{Date, calendar};
+use numbers::Number;
+use paper::{Read, Refusal};
 
 // one digit more after the number that stands before it
-fn further(text: &[u8], before: u64, at: usize) -> Read
+fn further(text: &[u8], before: u64, at: usize) -> Result<Read<u64>, Refusal>
     requires { (before ≤ 999) × (at ≤ length text.now) }
     ensures reads { further before (drop at text.now) ≡ found text.now result }
     ensures within { Within (before * 10 + 9) text.now result }
 {
-    if at == text.len() {
-        return Read::Refused(paper::refusal::NOT_CONVERTIBLE);
-    }
-    let b = text[at];
-    match b {
-        b'0'..=b'9' => Read::Found {
-            value: before * 10 + (b - b'0') as u64,
+    match text.get(at) {
+        Some(b) if b.is_ascii_digit() => Ok(Read {
+            value: before * 10 + u64::from(*b - b'0'),
             next: at + 1,
-        },
-        _ => Read::Refused(paper::refusal::NOT_CONVERTIBLE),
+        }),
+        _ => Err(Refusal::NotConvertible),
     }
 }
 
 // "one or two digits for day or month"
-fn pair(text: &[u8], at: usize) -> Read
+#[tactic(auto, using(crate::proofs::TypingLaws::pair_is))]
+fn pair(text: &[u8], at: usize) -> Result<Read<u64>, Refusal>
     requires { at ≤ length text.now }
     ensures reads { typed_pair (drop at text.now) ≡ found text.now result }
     ensures within { Within 99 text.now result }
 {
-    let first = further(text, 0, at);
-    let Read::Found { value: a, next: i } = first else {
-        return first;
-    };
-    let Read::Found { value: b, next: j } = further(text, a, i) else {
-        return Read::Found { value: a, next: i };
-    };
-    Read::Found { value: b, next: j }
+    let one = further(text, 0, at)?;
+    Ok(further(text, one.value, one.next).unwrap_or(one))
 }
 
 // "30 to 99 is 1930 to 1999, 00 to 29 is 2000 to 2029"
+#[tactic(auto, unfolding(paper::specs::TypedDates::century))]
 fn century(year: u64) -> u64
     requires { year ≤ 99 }
     ensures is { result ≡ century year }
@@ -69,129 +63,95 @@ fn century(year: u64) -> u64
 }
 
 // "a year of 2 or 4 digits"
-fn year(text: &[u8], at: usize) -> Read
+#[tactic(auto, using(crate::proofs::TypingLaws::year_is))]
+fn year(text: &[u8], at: usize) -> Result<Read<u64>, Refusal>
     requires { at ≤ length text.now }
     ensures reads { typed_year (drop at text.now) ≡ found text.now result }
     ensures within { Within 9_999 text.now result }
 {
-    let first = further(text, 0, at);
-    let Read::Found { value: a, next: i } = first else {
-        return first;
+    let one = further(text, 0, at)?;
+    let two = further(text, one.value, one.next)?;
+    let Ok(three) = further(text, two.value, two.next) else {
+        return Ok(Read {
+            value: century(two.value),
+            next: two.next,
+        });
     };
-    let second = further(text, a, i);
-    let Read::Found { value: b, next: j } = second else {
-        return second;
-    };
-    let Read::Found { value: c, next: k } = further(text, b, j) else {
-        return Read::Found {
-            value: century(b),
-            next: j,
-        };
-    };
-    further(text, c, k)
+    further(text, three.value, three.next)
 }
 
-// a letter in capitals; another byte as it is, which no month's name holds
-fn capital(b: u8) -> u8
-    ensures { result ≡ raised b }
+// the number of the month of that name
+fn month_called(name: [u8; 3]) -> Option<u64>
+    ensures is { (rest : List ℕ) → month_called name 1 month_names rest ≡ named (maybe result) rest }
+    ensures within { IfSome result (λ m. m ≤ 12) }
 {
-    match b {
-        b'a'..=b'z' => b - 32,
-        _ => b,
-    }
+    let k = calendar::NAMES.iter().position(|month| name == *month)?;
+    Some(k as u64 + 1)
 }
 
-// the number of the month of that name, 0 for none
-fn month_called(a: u8, b: u8, c: u8) -> u64
-    ensures is { (rest : List ℕ) → month_called (a ∷ b ∷ c ∷ []) 1 month_names rest ≡ named result rest }
-    ensures within { result ≤ 12 }
-{
-    let mut k: u64 = 0;
-    while k < 12 {
-        let at = (3 * k) as usize;
-        if (a == calendar::NAMES[at])
-            & ((b == calendar::NAMES[at + 1]) & (c == calendar::NAMES[at + 2]))
-        {
-            return k + 1;
-        }
-        k += 1;
-    }
-    0
-}
-
-// "three letters in either case for a month"
-fn month(text: &[u8], at: usize) -> Read
+// "three letters in either case for a month"; a byte that is no letter is in no month's name
+#[tactic(auto, using(crate::proofs::NameLaws::month_short))]
+fn month(text: &[u8], at: usize) -> Result<Read<u64>, Refusal>
     requires { at ≤ length text.now }
     ensures reads { typed_month (drop at text.now) ≡ found text.now result }
     ensures within { Within 12 text.now result }
 {
     if text.len() - at < 3 {
-        return Read::Refused(paper::refusal::NOT_CONVERTIBLE);
+        return Err(Refusal::NotConvertible);
     }
-    let m = month_called(
-        capital(text[at]),
-        capital(text[at + 1]),
-        capital(text[at + 2]),
-    );
-    if m == 0 {
-        return Read::Refused(paper::refusal::NOT_CONVERTIBLE);
-    }
-    Read::Found {
-        value: m,
+    // Raised once, and then twelve comparisons: `eq_ignore_ascii_case` would raise the letters at each name.
+    let name = [
+        text[at].to_ascii_uppercase(),
+        text[at + 1].to_ascii_uppercase(),
+        text[at + 2].to_ascii_uppercase(),
+    ];
+    let value = month_called(name).ok_or(Refusal::NotConvertible)?;
+    Ok(Read {
+        value,
         next: at + 3,
-    }
+    })
 }
 
 // "the same separators": what was read, if the separator follows it
-fn parted(text: &[u8], r: Read, s: u8) -> Read
-    requires { Within 99 text.now r }
-    ensures reads { follow (found text.now r) (parting s) ≡ found text.now result }
+#[tactic(auto, unfolding(paper::specs::Grammar::this), using(crate::proofs::TypingLaws::ahead_is, crate::proofs::TypingLaws::ahead_none))]
+fn parted(text: &[u8], r: Read<u64>, s: u8) -> Result<Read<u64>, Refusal>
+    requires { (r.value ≤ 99) × (r.next ≤ length text.now) }
+    ensures reads { parting s r.value (drop r.next text.now) ≡ found text.now result }
     ensures within { Within 99 text.now result }
 {
-    let Read::Found { value, next } = r else {
-        return r;
-    };
-    if next == text.len() {
-        return Read::Refused(paper::refusal::NOT_CONVERTIBLE);
+    match text.get(r.next) {
+        Some(b) if s == *b => Ok(Read {
+            value: r.value,
+            next: r.next + 1,
+        }),
+        _ => Err(Refusal::NotConvertible),
     }
-    if s == text[next] {
-        return Read::Found {
-            value,
-            next: next + 1,
-        };
-    }
-    Read::Refused(paper::refusal::NOT_CONVERTIBLE)
 }
 
 // a day counted from 1 January of year 1, as counted from 31 December 1967
-fn from_zero(n: u64) -> TypedDay
-    ensures { result ≡ typed_of (given (plus (natural n) (signed true day_zero))) }
+#[tactic(auto, using(crate::proofs::TypingLaws::from_day_zero))]
+fn from_zero(n: u64) -> Number
+    ensures { whole result ≡ plus (natural n) (signed true day_zero) }
 {
-    if calendar::DAY_ZERO <= n {
-        return TypedDay::Day {
-            negative: false,
-            size: n - calendar::DAY_ZERO,
-        };
-    }
-    TypedDay::Day {
-        negative: true,
-        size: calendar::DAY_ZERO - n,
+    Number {
+        negative: n < calendar::DAY_ZERO,
+        size: n.abs_diff(calendar::DAY_ZERO),
     }
 }
 
 // the day of a date; 12 for "a date that isn't in the calendar"
-fn day_of(d: Date) -> TypedDay
+fn day_of(d: Date) -> Result<Number, Refusal>
     requires { d.year ≤ 9_999 }
-    ensures { result ≡ day_of (some (paper_date d)) }
+    ensures { told_by whole result ≡ dated (some (paper_date d)) }
 {
     if calendar::in_calendar(d) {
-        return from_zero(calendar::days_to(d));
+        return Ok(from_zero(calendar::days_to(d)));
     }
-    TypedDay::Refused(paper::refusal::NOT_CONVERTIBLE)
+    Err(Refusal::NotConvertible)
 }
 
-// the second piece: a month in letters, or a day
-fn second(text: &[u8], at: usize, letters: bool) -> Read
+// the second piece: a month in letters, or a day; a flag and not a closure tells which, since it orders the date too
+fn second(text: &[u8], at: usize, letters: bool) -> Result<Read<u64>, Refusal>
     requires { at ≤ length text.now }
     ensures reads { second letters (drop at text.now) ≡ found text.now result }
     ensures within { Within 99 text.now result }
@@ -221,43 +181,37 @@ fn ordered(letters: bool, a: u64, b: u64, year: u64) -> Date
 }
 
 // "another form is 12": the year ends the text
-fn ended(text: &[u8], letters: bool, a: u64, b: u64, year: Read) -> TypedDay
-    requires { Within 9_999 text.now year }
-    ensures { result ≡ day_of (all_read (follow (found text.now year) (dated letters a b))) }
+fn ended(text: &[u8], letters: bool, a: u64, b: u64, year: Read<u64>) -> Result<Number, Refusal>
+    requires { (year.value ≤ 9_999) × (year.next ≤ length text.now) }
+    ensures { told_by whole result ≡ dated (all_read (ended letters a b year.value (drop year.next text.now))) }
 {
-    let Read::Found { value, next } = year else {
-        return TypedDay::Refused(year.refusal());
-    };
-    if next < text.len() {
-        return TypedDay::Refused(paper::refusal::NOT_CONVERTIBLE);
+    if year.next < text.len() {
+        return Err(Refusal::NotConvertible);
     }
-    day_of(ordered(letters, a, b, value))
+    day_of(ordered(letters, a, b, year.value))
 }
 
 // the form that the code prints: two pieces, each with the separator after it, and the year
-fn form(text: &[u8], s: u8, letters: bool) -> TypedDay
-    ensures { result ≡ day_of (all_read (form letters s text.now)) }
+#[tactic(auto, using(crate::proofs::TypingLaws::form_is))]
+fn form(text: &[u8], s: u8, letters: bool) -> Result<Number, Refusal>
+    ensures { told_by whole result ≡ dated (all_read (form letters s text.now)) }
 {
-    let first = parted(text, pair(text, 0), s);
-    let Read::Found { value: a, next: i } = first else {
-        return TypedDay::Refused(first.refusal());
-    };
-    let then = parted(text, second(text, i, letters), s);
-    let Read::Found { value: b, next: j } = then else {
-        return TypedDay::Refused(then.refusal());
-    };
-    ended(text, letters, a, b, year(text, j))
+    let a = parted(text, pair(text, 0)?, s)?;
+    let b = parted(text, second(text, a.next, letters)?, s)?;
+    let y = year(text, b.next)?;
+    ended(text, letters, a.value, b.value, y)
 }
 
 // the day that a text names by a code `D{n}{s}`: "A code with n = 0, a date that isn't in the calendar, or another form is 12."
-pub fn typed_date(text: &[u8], n: u64, separator: Separator) -> TypedDay
-    ensures { result ≡ typed_of (typed n (separator_of separator) text.now) }
+#[tactic(auto, unfolding(paper::specs::TypedDates::typed), using(crate::proofs::TypingLaws::typed_blank, crate::proofs::TypingLaws::typed_byte))]
+pub fn typed_date(text: &[u8], n: u64, separator: Option<u8>) -> Result<Number, Refusal>
+    ensures { told_by whole result ≡ typed n (maybe separator) text.now }
 {
     if n == 0 {
-        return TypedDay::Refused(paper::refusal::NOT_CONVERTIBLE);
+        return Err(Refusal::NotConvertible);
     }
     match separator {
-        Separator::Absent => form(text, b' ', true),
-        Separator::Byte(s) => form(text, s, false),
+        None => form(text, b' ', true),
+        Some(s) => form(text, s, false),
     }
 }

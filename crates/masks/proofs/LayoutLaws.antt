@@ -1,5 +1,5 @@
 -- A text in its field, in front of what a lent buffer held, over plain lists. Assumes nothing.
-use mathlib.Core.Path.{◌≡◌, refl, sym, ap, ◌∙◌}
+use mathlib.Core.Path.{◌≡◌, sym, ap, ◌∙◌}
 use mathlib.Core.Bool.{Bool}
 use mathlib.Core.Option.{some}
 use Prim.Native.Nat.{ℕ, ◌≤◌}
@@ -7,25 +7,21 @@ use native.Mathlib.Nat.{zero-add}
 use lib.ListN.{length}
 use borrow.Author.Tests.{le-leb}
 use Rattle.paper.specs.Bytes.{Bytes}
-use Rattle.paper.specs.Refusals.{Res, given, refused}
-use Rattle.paper.specs.declared.Given.{Given}
-use Rattle.paper.specs.Answers.{given_of, written}
+use Rattle.paper.specs.Refusals.{Res, given}
+use Rattle.std.specs.Prelude.{Result, Ok}
+use Rattle.paper.specs.declared.Refusal.{Refusal}
+use Rattle.paper.specs.Answers.{sized, written}
 use Rattle.paper.specs.Masks.{padded, laid_out}
-use Rattle.paper.proofs.Limits.{Answered}
+use Rattle.paper.proofs.Limits.{Answered, gives_bytes}
 use Rattle.lent.specs.Over.{Laid}
 use Rattle.lent.proofs.Laws.{over_front}
 
 -- a call's answer and what its buffer holds afterwards, from what the definition gives
-pub refuses : (r : Res Bytes) (n : ℕ) (d : Bytes) → r ≡ refused n → Answered r d d (Given.Refused n)
-unfolding given_of written
-refuses r n d e = rw e (record { value = refl; out_after = refl })
+pub gives : (r : Res Bytes) {bs d after : Bytes} {n : ℕ} → r ≡ given bs → Laid bs d n after 0 → Answered r d after (Ok n)
+gives r {bs} {d} e laid = gives_bytes d bs e (sym laid.place ∙ zero-add (length bs)) (laid.bytes ∙ over_front d bs)
 
-pub gives : (r : Res Bytes) {bs d after : Bytes} {n : ℕ} → r ≡ given bs → Laid bs d n after 0 → Answered r d after (Given.Length n)
-unfolding given_of written
-gives r {bs} {d} e laid = rw e (record { value = ap Given.Length (sym laid.place ∙ zero-add (length bs)); out_after = laid.bytes ∙ over_front d bs })
-
-pub same_answer : (d : Bytes) {r s : Res Bytes} {answer : Given} {after : Bytes} → r ≡ s → Answered r d after answer → Answered s d after answer
-same_answer d e h = record { value = h.value ∙ ap given_of e; out_after = h.out_after ∙ ap (written d) e }
+pub same_answer : (d : Bytes) (answer : Result ℕ Refusal) {r s : Res Bytes} {after : Bytes} → r ≡ s → Answered r d after answer → Answered s d after answer
+same_answer d answer e h = record { value = h.value ∙ ap sized e; out_after = h.out_after ∙ ap (written d) e }
 
 -- "MR fills on the left, ML on the right"
 pub fitting : (left : Bool) {t : Bool} (byte width : ℕ) (text : Bytes) → left ≡ t → length text ≤ width

@@ -11,42 +11,35 @@ use lib.ListN.{length, replicate, length-append, length-replicate}
 use borrow.Author.Tests.{le-leb, lt-leb, leb-true, leb-false}
 use Rattle.paper.specs.Bytes.{Bytes}
 use Rattle.paper.specs.Sizes.{number_most, entry_most}
-use Rattle.paper.specs.Refusals.{Res, given, refused, ◌>>=◌, ◌>>◌, refuse◌unless◌}
+use Rattle.paper.specs.Refusals.{Res, given, refused, ◌>>=◌, ◌>>◌, refuse◌unless◌, out_of_range}
 use Rattle.paper.specs.Numbers.{Number as Whole, signed, numeric, ranged}
 use Rattle.paper.specs.Codes.{Mask}
 use Rattle.paper.specs.Masks.{on_number, number_gives, scaled_size, scaled, masked_text, laid_out, blank_text, number_masked, mask_gives}
 use Rattle.paper.specs.Steps.{limited}
 use Rattle.paper.proofs.Predicates.{Holds, holds, refuses, holds_after}
-use Rattle.masks.specs.declared.scaling.Scaling.{Scaling}
 use Rattle.masks.specs.Bounds.{Bounded, field_width}
-use Rattle.masks.specs.Scaling.{scaling_of, scaling_refusal}
+use Rattle.masks.specs.Scaling.{in_range}
 use Rattle.masks.proofs.PieceLaws.{length_masked}
-
--- two constructors are never one
-never : {G : Type 0} → ◌≡◌ {A = ℕ} 0 1 → G
-never e = absurd (omega arith)
 
 -- the paper's scaled size
 abbrev size_of : Mask → Whole → ℕ
 size_of k x = scaled_size k.decimals k.scale x.size
 
 -- a size in range is what was scaled; none is out of range
-in_range : (n m : ℕ) {r : Scaling} → r ≡ Scaling.Size n → r ≡ scaling_of m → (n ≡ m) × (m ≤ number_most)
-unfolding scaling_of
-in_range n m {r} found = go (leb m number_most) refl
+size_in : (n m : ℕ) → given n ≡ in_range m → (n ≡ m) × (m ≤ number_most)
+size_in n m = go (leb m number_most) refl
   where
-    go : (t : Bool) → leb m number_most ≡ t → r ≡ (if t then Scaling.Size m else Scaling.Refused 10) → (n ≡ m) × (m ≤ number_most)
+    go : (t : Bool) → leb m number_most ≡ t → given n ≡ (refuse out_of_range unless t >> given m) → (n ≡ m) × (m ≤ number_most)
     go true h e = (cc, leb-true m number_most h)
-    go false h e = never cc
+    go false h e = cc
 
 -- 10 is passed up
-outside : (m : ℕ) {r : Scaling} {k n : ℕ} → r ≡ Scaling.Refused k → n ≡ scaling_refusal r → r ≡ scaling_of m → (n ≡ 10) × (number_most < m)
-unfolding scaling_of
-outside m {r} {k} {n} found e = go (leb m number_most) refl
+outside : (n m : ℕ) → refused n ≡ in_range m → (n ≡ out_of_range) × (number_most < m)
+outside n m = go (leb m number_most) refl
   where
-    go : (t : Bool) → leb m number_most ≡ t → r ≡ (if t then Scaling.Size m else Scaling.Refused 10) → (n ≡ 10) × (number_most < m)
-    go true h f = never cc
-    go false h f = (e ∙ ap scaling_refusal f, leb-false m number_most h)
+    go : (t : Bool) → leb m number_most ≡ t → refused n ≡ (refuse out_of_range unless t >> given m) → (n ≡ out_of_range) × (number_most < m)
+    go true h e = cc
+    go false h e = (cc, leb-false m number_most h)
 
 module _ (k : Mask) (x : Whole) where
   -- "Z turns an element of 0 into empty text, and into blanks under a mask of any fill"
@@ -54,21 +47,21 @@ module _ (k : Mask) (x : Whole) where
   unfolding number_masked
   blanked e = rw e
 
-  pub size_ranged : (n : ℕ) {r : Scaling} → r ≡ Scaling.Size n → r ≡ scaling_of (size_of k x) → n ≤ number_most
-  size_ranged n found e = omega (arith, in_range n (size_of k x) found e)
+  pub size_ranged : (n : ℕ) → given n ≡ in_range (size_of k x) → n ≤ number_most
+  size_ranged n e = omega (arith, size_in n (size_of k x) e)
 
   module _ (e : k.blank_zero && eqb x.size 0 ≡ false) where
     -- 10 is tried on the scaled value
-    pub beyond : {r : Scaling} {m n : ℕ} → r ≡ Scaling.Refused m → n ≡ scaling_refusal r → r ≡ scaling_of (size_of k x) → number_masked k x ≡ refused n
+    pub beyond : (n : ℕ) → refused n ≡ in_range (size_of k x) → number_masked k x ≡ refused n
     unfolding number_masked ranged scaled signed
-    beyond found f h = let out = outside (size_of k x) found f h in rw (e, out.0, lt-leb (size_of k x) number_most out.1)
+    beyond n h = let out = outside n (size_of k x) h in rw (e, out.0, lt-leb (size_of k x) number_most out.1)
 
     -- "The sign is that of the rounded value."
-    pub laid : (n : ℕ) {r : Scaling} → r ≡ Scaling.Size n → r ≡ scaling_of (size_of k x)
+    pub laid : (n : ℕ) → given n ≡ in_range (size_of k x)
         → laid_out k.left k.filled (masked_text k (record { negative = x.negative && ltb 0 n; size = n })) ≡ number_masked k x
     unfolding number_masked ranged scaled signed
-    laid n found h =
-        let same = in_range n (size_of k x) found h in
+    laid n h =
+        let same = size_in n (size_of k x) h in
         rw (e, same.0, le-leb (size_of k x) number_most same.1)
 
 -- no text is wider than the widest mask

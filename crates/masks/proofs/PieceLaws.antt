@@ -6,8 +6,11 @@ use mathlib.Core.List.{[], ◌∷◌, ◌++◌, append_assoc}
 use Prim.Native.Nat.{ℕ, zero, suc, ◌+◌, ◌-◌, ◌/◌, ◌^◌, ◌≤◌}
 use native.Mathlib.Nat.{le_refl}
 use native.Mathlib.Omega.{arith}
-use lib.Dec.{eqb, ltb}
+use lib.Dec.{eqb}
 use lib.ListN.{length, take, drop, length-append}
+use Rattle.std.specs.Prelude.{None, Some}
+use Rattle.std.specs.Prelude.{Option as Maybe}
+use Rattle.std.specs.Bool.{then_some}
 use Rattle.paper.specs.Bytes.{Bytes, bytes}
 use Rattle.paper.specs.Numbers.{Number, digits, decimal}
 use Rattle.paper.specs.Codes.{Credit, Mask}
@@ -15,14 +18,19 @@ use Rattle.paper.specs.Masks.{integer_text, point_text, digits_text, before_digi
 use Rattle.paper.proofs.Numerals.{length_digits, length_decimal}
 use Rattle.lent.proofs.Laws.{over_as}
 use Rattle.lent.specs.Over.{Laid}
-use Rattle.masks.specs.Pieces.{when, or_blank}
+use Rattle.masks.specs.Pieces.{alone, when, or_blank}
 use Rattle.lent.proofs.Laying.{laid_ahead, laid_as}
 use Rattle.masks.proofs.GroupLaws.{parted, length_parted}
 
-pub length_when : (on : Bool) (b : ℕ) → length (when on b) ≤ 1
+pub length_alone : (byte : Maybe ℕ) → length (alone byte) ≤ 1
+length_alone None = omega arith
+length_alone (Some b) = omega arith
+
+-- a byte that is asked for
+pub alone_when : (byte : Maybe ℕ) (on : Bool) (b : ℕ) → byte ≡ then_some on b → alone byte ≡ when on b
 unfolding when
-length_when true b = omega arith
-length_when false b = omega arith
+alone_when byte true b e = rw e
+alone_when byte false b e = rw e
 
 -- "without the point" where n is 0
 pub no_point : (decimals size : ℕ) → decimals ≡ 0 → [] ≡ point_text decimals size
@@ -86,38 +94,31 @@ length_after Credit.debit y = within (y.negative || eqb y.size 0) (bytes "  ") (
 length_after Credit.enclosed y = within y.negative (bytes ">") (bytes " ") 2 (omega arith) (omega arith)
 length_after Credit.trailing y = within y.negative (bytes "-") (bytes " ") 2 (omega arith) (omega arith)
 
--- the byte before the digits, by the byte that a negative number has there
-signed_by : (credits : Credit) (negative : Bool) (b : ℕ) → when (ltb 0 b) b ≡ before_digits credits true
-    → when (negative && ltb 0 b) b ≡ before_digits credits negative
-unfolding when before_digits
-signed_by credits true b e = e
-signed_by credits false b e = sym (no_sign credits)
-  where
-    no_sign : (credits : Credit) → before_digits credits false ≡ []
-    no_sign Credit.no_credit = refl
-    no_sign Credit.debit = refl
-    no_sign Credit.enclosed = refl
-    no_sign Credit.credit = refl
-    no_sign Credit.trailing = refl
-    no_sign Credit.suppressed = refl
+-- no credit has a byte before the digits of a positive number
+pub none_before : (credits : Credit) → [] ≡ before_digits credits false
+unfolding before_digits
+none_before Credit.no_credit = refl
+none_before Credit.debit = refl
+none_before Credit.enclosed = refl
+none_before Credit.credit = refl
+none_before Credit.trailing = refl
+none_before Credit.suppressed = refl
 
 -- "`$` is the leftmost byte of the text": the pieces in the order in which they are laid
-texted : (k : Mask) (y : Number) (b : ℕ) → when (ltb 0 b) b ≡ before_digits k.credits true
-    → when k.dollar 36
-    ++ (when (y.negative && ltb 0 b) b
-    ++ (integer_text k.commas (y.size / 10 ^ k.decimals) ++ point_text k.decimals y.size ++ after_digits k.credits y))
+texted : (k : Mask) (y : Number) (sign dollar : Maybe ℕ) → alone sign ≡ before_digits k.credits y.negative → dollar ≡ then_some k.dollar 36
+    → alone dollar ++ (alone sign ++ (integer_text k.commas (y.size / 10 ^ k.decimals) ++ point_text k.decimals y.size ++ after_digits k.credits y))
     ≡ masked_text k y
 unfolding masked_text digits_text when bytes
-texted k y b e = rw (signed_by k.credits y.negative b e) (simp append_assoc)
+texted k y sign dollar e f = rw (e, alone_when dollar k.dollar 36 f) (simp append_assoc)
 
-pub laid_text : (k : Mask) (y : Number) (b : ℕ) {before suffixed numbered signed text : Bytes} {suffix digits sign r : ℕ}
-    → when (ltb 0 b) b ≡ before_digits k.credits true → Laid (after_digits k.credits y) before (length before) suffixed suffix
+pub laid_text : (k : Mask) (y : Number) (byte mark : Maybe ℕ) {before suffixed numbered signed text : Bytes} {suffix digits sign r : ℕ}
+    → alone byte ≡ before_digits k.credits y.negative → mark ≡ then_some k.dollar 36
+    → Laid (after_digits k.credits y) before (length before) suffixed suffix
     → Laid (integer_text k.commas (y.size / 10 ^ k.decimals) ++ point_text k.decimals y.size) suffixed suffix numbered digits
-    → Laid (when (y.negative && ltb 0 b) b) numbered digits signed sign → Laid (when k.dollar 36) signed sign text r
-    → Laid (masked_text k y) before (length before) text r
-laid_text k y b {before} e suffixed numbered signed dollar =
+    → Laid (alone byte) numbered digits signed sign → Laid (alone mark) signed sign text r → Laid (masked_text k y) before (length before) text r
+laid_text k y byte mark {before} e f suffixed numbered signed dollar =
     let fits = le_refl (length before) in
-    laid_as (texted k y b e) (laid_ahead (laid_ahead (laid_ahead suffixed numbered fits) signed fits) dollar fits)
+    laid_as (texted k y byte mark e f) (laid_ahead (laid_ahead (laid_ahead suffixed numbered fits) signed fits) dollar fits)
 
 -- no text is longer than the buffer
 length_before : (credits : Credit) (negative : Bool) → length (before_digits credits negative) ≤ 1

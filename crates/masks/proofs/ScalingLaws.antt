@@ -5,11 +5,11 @@ use native.Mathlib.Nat.{mul-one, mod-one, div-one, pow-le-pow_right, le-div_iff_
 use native.Mathlib.Omega.{arith}
 use borrow.Author.Tests.{le-leb, lt-leb}
 use Rattle.paper.specs.Sizes.{number_most}
+use Rattle.paper.specs.Refusals.{given, refused, out_of_range}
 use Rattle.paper.specs.Masks.{rounded, scaled_size}
 use Rattle.paper.proofs.Numerals.{pow_pos}
 use Rattle.paper.proofs.Symmetry.{rounded_below}
-use Rattle.masks.specs.declared.scaling.Scaling.{Scaling}
-use Rattle.masks.specs.Scaling.{scaling_of}
+use Rattle.masks.specs.Scaling.{in_range}
 
 -- nothing is dropped over one
 rounded_one : (size : ℕ) → rounded size 1 ≡ size
@@ -26,18 +26,16 @@ times_within size times k e h = let some : 0 < times = rw e (pow_pos k) in (le-d
 times_beyond : (size times k : ℕ) → times ≡ 10 ^ k → number_most / times < size → number_most < size * times
 times_beyond size times k e h = let some : 0 < times = rw e (pow_pos k) in (div-lt_iff_lt-mul some).0 h
 
-sized : (n : ℕ) → n ≤ number_most → Scaling.Size n ≡ scaling_of n
-unfolding scaling_of
+sized : (n : ℕ) → n ≤ number_most → given n ≡ in_range n
 sized n h = rw (le-leb n number_most h)
 
-too_large : (n : ℕ) → number_most < n → Scaling.Refused 10 ≡ scaling_of n
-unfolding scaling_of
+too_large : (n : ℕ) → number_most < n → refused out_of_range ≡ in_range n
 too_large n h = rw (lt-leb n number_most h)
 
 module _ (size decimals scale : ℕ) where
   -- m at least n: digits are dropped
   pub scaled_down : (r over : ℕ) → size ≤ number_most → decimals ≤ scale → over ≡ 10 ^ (scale - decimals) → r ≡ rounded size over
-      → Scaling.Size r ≡ scaling_of (scaled_size decimals scale size)
+      → given r ≡ in_range (scaled_size decimals scale size)
   unfolding scaled_size
   scaled_down r over ranged h e f =
       let none : decimals - scale ≡ 0 = omega arith in
@@ -53,9 +51,12 @@ module _ (size decimals scale : ℕ) where
       rw (none, e) (sym (rounded_one (size * 10 ^ (decimals - scale))))
 
   pub scaled_up : (times : ℕ) → scale ≤ decimals → times ≡ 10 ^ (decimals - scale) → size ≤ number_most / times
-      → Scaling.Size (size * times) ≡ scaling_of (scaled_size decimals scale size)
-  scaled_up times h e within = sized (size * times) (times_within size times (decimals - scale) e within) ∙ ap scaling_of (added times h e)
+      → given (size * times) ≡ in_range (scaled_size decimals scale size)
+  scaled_up times h e within = sized (size * times) (times_within size times (decimals - scale) e within) ∙ ap in_range (added times h e)
 
   pub scaled_beyond : (times : ℕ) → scale ≤ decimals → times ≡ 10 ^ (decimals - scale) → number_most / times < size
-      → Scaling.Refused 10 ≡ scaling_of (scaled_size decimals scale size)
-  scaled_beyond times h e beyond = too_large (size * times) (times_beyond size times (decimals - scale) e beyond) ∙ ap scaling_of (added times h e)
+      → refused out_of_range ≡ in_range (scaled_size decimals scale size)
+  scaled_beyond times h e beyond = too_large (size * times) (times_beyond size times (decimals - scale) e beyond) ∙ ap in_range (added times h e)
+
+-- digits dropped, a size out of range, digits added
+pub ruleset scaling = (power_within, times_within, scaled_down, scaled_up, scaled_beyond)

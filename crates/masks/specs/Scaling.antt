@@ -1,14 +1,10 @@
--- The paper's number and value for each case of a scaled size.
-use Rattle.std.specs.Prelude.{ℕ, leb, if◌then◌else◌}
+-- What a scaled size comes to before it has its sign.
+use Rattle.std.specs.Prelude.{ℕ, leb}
 use Rattle.paper.specs.Sizes.{number_most}
-use Rattle.paper.specs.Refusals.{out_of_range}
-use Rattle.masks.specs.declared.scaling.Scaling.{Scaling}
+use Rattle.paper.specs.Refusals.{Res, given, ◌>>◌, refuse◌unless◌, out_of_range}
 
 -- a size in range, or 10
-unfoldable pub scaling_of : ℕ → Scaling
-scaling_of n = if leb n number_most then Scaling.Size n else Scaling.Refused out_of_range
-
--- the refusal's number, 0 for none
-abbrev pub scaling_refusal : Scaling → ℕ
-scaling_refusal (Scaling.Size n) = 0
-scaling_refusal (Scaling.Refused n) = n
+abbrev pub in_range : ℕ → Res ℕ
+in_range n = do
+  refuse out_of_range unless leb n number_most
+  given n

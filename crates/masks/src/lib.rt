@@ -6,7 +6,7 @@
 ghost use Rattle.std.proofs.Math.Option.{some};
 ghost use Rattle.std.specs.Prelude.{◌≡◌, ◌≤◌, length};
 ghost use Rattle.paper.specs.Sizes.{entry_most, number_most};
-ghost use Rattle.paper.specs.Answers.{given_of, written};
+ghost use Rattle.paper.specs.Answers.{told, sized, written};
 ghost use Rattle.paper.specs.Refusals.{given};
 ghost use Rattle.paper.specs.Steps.{limited};
 ghost use Rattle.paper.specs.Masks.{masked_text, laid_out, blank_text, number_masked, mask_gives};
@@ -14,10 +14,9 @@ ghost use Rattle.numbers.specs.Forms.{whole};
 ghost use Rattle.codes.specs.Meaning.{fill_of, mask_of};
 ghost use Rattle.masks.specs.Bounds.{Bounded, field_width};
 
-use crate::scaling::Scaling;
 use codes::{Fill, Mask};
-use numbers::{Number, Reckoned};
-use paper::{Given, Limit, refusal};
+use numbers::Number;
+use paper::{Limit, Refusal};
 
 mod scaling;
 mod text;
@@ -26,105 +25,86 @@ mod text;
 const LONGEST: usize = 2 + Limit::DIGITS.most + 4 + 10 + 2;
 
 // "ML and MR: empty stays empty, other non-numeric is 12." "Checks: 12, 10, 14, 9."
-pub fn give(e: &[u8], mask: Mask, out: &mut [u8]) -> Given
+pub fn give(e: &[u8], mask: Mask, out: &mut [u8]) -> Result<usize, Refusal>
     requires { (entry_most ≤ length out.old) × Bounded (mask_of mask) }
-    ensures value { result ≡ given_of (limited entry_most (mask_gives (mask_of mask) e.now)) }
+    ensures value { told result ≡ sized (limited entry_most (mask_gives (mask_of mask) e.now)) }
     ensures out_after { out.new ≡ written out.old (limited entry_most (mask_gives (mask_of mask) e.now)) }
 {
-    if e.len() == 0 {
-        return Given::Length(0);
+    if e.is_empty() {
+        return Ok(0);
     }
-    let element = numbers::reading::convertible(e);
-    let Reckoned::Number(x) = element else {
-        return Given::Refused(element.refusal());
-    };
-    number_masked(x, mask, out)
+    number_masked(numbers::reading::convertible(e)?, mask, out)
 }
 
 // "Z turns an element of 0 into empty text"; "The sign is that of the rounded value."
-fn number_masked(x: Number, mask: Mask, out: &mut [u8]) -> Given
+fn number_masked(x: Number, mask: Mask, out: &mut [u8]) -> Result<usize, Refusal>
     requires { (x.size ≤ number_most) × (99 ≤ length out.old) × Bounded (mask_of mask) }
-    ensures value { result ≡ given_of (number_masked (mask_of mask) (whole x)) }
+    ensures value { told result ≡ sized (number_masked (mask_of mask) (whole x)) }
     ensures out_after { out.new ≡ written out.old (number_masked (mask_of mask) (whole x)) }
 {
-    let blank_zero = mask.blank_zero;
-    let filled = mask.filled;
-    let negative = x.negative;
-    let element = x.size;
-    if blank_zero & (element == 0) {
-        return blank_text(filled, out);
+    if mask.blank_zero & (x.size == 0) {
+        return blank_text(mask.filled, out);
     }
-    let scaled = scaling::scaled(element, mask.decimals, mask.scale);
-    let Scaling::Size(size) = scaled else {
-        return Given::Refused(scaled.refusal());
-    };
-    let y = Number {
-        negative: negative & (0 < size),
-        size,
-    };
-    shown(y, mask, out)
+    let size = scaling::scaled(x.size, mask.decimals, mask.scale)?;
+    shown(Number::signed(x.negative, size), mask, out)
 }
 
 // the text of a scaled number, laid out
-fn shown(y: Number, mask: Mask, out: &mut [u8]) -> Given
+fn shown(y: Number, mask: Mask, out: &mut [u8]) -> Result<usize, Refusal>
     requires { (y.size ≤ number_most) × (99 ≤ length out.old) × Bounded (mask_of mask) }
-    ensures value { result ≡ given_of (laid_out mask.left (fill_of mask.filled) (masked_text (mask_of mask) (whole y))) }
+    ensures value { told result ≡ sized (laid_out mask.left (fill_of mask.filled) (masked_text (mask_of mask) (whole y))) }
     ensures out_after { out.new ≡ written out.old (laid_out mask.left (fill_of mask.filled) (masked_text (mask_of mask) (whole y))) }
 {
     let mut text = [0u8; LONGEST];
     let at = text::masked_text(&mut text, y, mask);
-    let filled = mask.filled;
-    laid_out(&text[at..LONGEST], mask.left, filled, out)
+    laid_out(&text[at..LONGEST], mask.left, mask.filled, out)
 }
 
-// "Fill goes outside that: MR fills on the left, ML on the right."
-fn laid_out(text: &[u8], left: bool, filled: Fill, out: &mut [u8]) -> Given
+// "Fill goes outside that: MR fills on the left, ML on the right." A flag tells ML from MR, as in the codes: an enum would become it here.
+fn laid_out(text: &[u8], left: bool, filled: Option<Fill>, out: &mut [u8]) -> Result<usize, Refusal>
     requires { (length text.now ≤ length out.old) × (field_width (fill_of filled) ≤ length out.old) }
-    ensures value { result ≡ given_of (laid_out left (fill_of filled) text.now) }
+    ensures value { told result ≡ sized (laid_out left (fill_of filled) text.now) }
     ensures out_after { out.new ≡ written out.old (laid_out left (fill_of filled) text.now) }
 {
-    match filled {
-        Fill::Absent => {
-            lent::copy_in(text, out, 0);
-            Given::Length(text.len())
-        }
-        Fill::Field { byte, width } => in_field(text, left, byte, width as usize, out),
+    if let Some(fill) = filled {
+        return in_field(text, left, fill, out);
     }
+    lent::copy_in(text, out, 0);
+    Ok(text.len())
 }
 
 // a text in its field: refused where it is wider, else filled up to the width
-fn in_field(text: &[u8], left: bool, byte: u8, width: usize, out: &mut [u8]) -> Given
-    requires { width ≤ length out.old }
-    ensures value { result ≡ given_of (laid_out left (some (byte, width)) text.now) }
-    ensures out_after { out.new ≡ written out.old (laid_out left (some (byte, width)) text.now) }
+fn in_field(text: &[u8], left: bool, fill: Fill, out: &mut [u8]) -> Result<usize, Refusal>
+    requires { fill.width ≤ length out.old }
+    ensures value { told result ≡ sized (laid_out left (some (fill.byte, fill.width)) text.now) }
+    ensures out_after { out.new ≡ written out.old (laid_out left (some (fill.byte, fill.width)) text.now) }
 {
+    let width = fill.width as usize;
     let count = text.len();
     if width < count {
-        return Given::Refused(refusal::WIDER_THAN_MASK);
+        return Err(Refusal::WiderThanMask);
     }
     let rest = width - count;
     if left {
         lent::copy_in(text, out, 0);
-        lent::fill(out, count, rest, byte);
+        lent::fill(out, count, rest, fill.byte);
     } else {
-        lent::fill(out, 0, rest, byte);
+        lent::fill(out, 0, rest, fill.byte);
         lent::copy_in(text, out, rest);
     }
-    Given::Length(width)
+    Ok(width)
 }
 
 // "into empty text, and into blanks under a mask of any fill"
-fn blank_text(filled: Fill, out: &mut [u8]) -> Given
+fn blank_text(filled: Option<Fill>, out: &mut [u8]) -> Result<usize, Refusal>
     requires { field_width (fill_of filled) ≤ length out.old }
-    ensures value { result ≡ given_of (given (blank_text (fill_of filled))) }
+    ensures value { told result ≡ sized (given (blank_text (fill_of filled))) }
     ensures out_after { out.new ≡ written out.old (given (blank_text (fill_of filled))) }
 {
-    match filled {
-        Fill::Absent => Given::Length(0),
-        Fill::Field { byte: _, width } => {
-            let count = width as usize;
-            lent::fill(out, 0, count, b' ');
-            Given::Length(count)
-        }
-    }
+    let Some(fill) = filled else {
+        return Ok(0);
+    };
+    let width = fill.width as usize;
+    lent::fill(out, 0, width, b' ');
+    Ok(width)
 }

@@ -1,12 +1,13 @@
 // A text without its fill, from its right end: each piece is laid in front of what is there, and its place comes back.
+// `text` and `at` are two parameters: a struct of both would hold `at ≤ length text` for seven contracts, whose `Laid` names both again, before and after.
 // A suffix has at most 2 bytes, decimals and their point 10, integer digits and their commas 19, sign and `$` one each: 33 in all.
-ghost use Rattle.std.specs.Prelude.{true, [], ◌∷◌, ◌++◌, ◌≡◌, ◌/◌, ◌^◌, ◌≤◌, ltb, length};
+ghost use Rattle.std.specs.Prelude.{[], ◌∷◌, ◌++◌, ◌≡◌, ◌/◌, ◌^◌, ◌≤◌, length};
 ghost use Rattle.paper.specs.Sizes.{number_most};
 ghost use Rattle.paper.specs.Masks.{integer_text, point_text, before_digits, after_digits, masked_text};
 ghost use Rattle.numbers.specs.Forms.{whole};
 ghost use Rattle.codes.specs.Meaning.{credit_of, mask_of};
 ghost use Rattle.lent.specs.Over.{Laid};
-ghost use Rattle.masks.specs.Pieces.{when, or_blank};
+ghost use Rattle.masks.specs.Pieces.{alone, or_blank};
 
 use codes::{Credit, Mask};
 use numbers::{Number, writing};
@@ -17,15 +18,10 @@ pub(crate) fn masked_text(text: &mut [u8], y: Number, mask: Mask) -> usize
     ensures { Laid (masked_text (mask_of mask) (whole y)) text.old (length text.old) text.new result }
 {
     let end = text.len();
-    let credits = mask.credits;
-    let dollar = mask.dollar;
-    let negative = y.negative;
-    let suffix = after_digits(text, end, credits, y);
+    let suffix = after_digits(text, end, mask.credits, y);
     let digits = digits_text(text, suffix, mask.decimals, mask.commas, y.size);
-    let byte = sign_byte(credits);
-    let signed = negative & (0 < byte);
-    let sign = put_when(text, digits, signed, byte);
-    put_when(text, sign, dollar, b'$')
+    let sign = put_some(text, digits, sign_byte(mask.credits, y.negative));
+    put_some(text, sign, mask.dollar.then_some(b'$'))
 }
 
 // integer digits, and decimals behind a point
@@ -59,44 +55,51 @@ fn integer_text(text: &mut [u8], at: usize, commas: bool, n: u64) -> usize
 {
     let mut place = put(text, at, b'0' + (n % 10) as u8);
     let mut rest = n / 10;
-    let mut count: u64 = 1;
+    let mut count: u64 = 1; // the digits laid so far
+    // A `while`: it ends when no digit is left, and how many there are is not known before.
     while 0 < rest {
-        place = put_when(text, place, commas & (count % 3 == 0), b',');
+        let comma = commas & (count % 3 == 0);
+        place = put_some(text, place, comma.then_some(b','));
         place = put(text, place, b'0' + (rest % 10) as u8);
-        rest = rest / 10;
+        rest /= 10;
         count += 1;
     }
     place
 }
 
 // "Suffixes as in 000 section 2.9, blanks included"
-fn after_digits(text: &mut [u8], at: usize, credits: Credit, y: Number) -> usize
+fn after_digits(text: &mut [u8], at: usize, credits: Option<Credit>, y: Number) -> usize
     requires { (2 ≤ at) × (at ≤ length text.old) }
     ensures { Laid (after_digits (credit_of credits) (whole y)) text.old at text.new result }
 {
+    let Some(credit) = credits else {
+        return at;
+    };
     let negative = y.negative;
-    let size = y.size;
-    match credits {
-        Credit::Absent => at,
-        Credit::Suppressed => at,
+    match credit {
         Credit::Credit => put_pair(text, at, negative, b'C', b'R'),
-        Credit::Debit => put_pair(text, at, !(negative | (size == 0)), b'D', b'B'),
+        Credit::Debit => put_pair(text, at, !(negative | (y.size == 0)), b'D', b'B'),
         Credit::Enclosed => put(text, at, or_blank(negative, b'>')),
         Credit::Trailing => put(text, at, or_blank(negative, b'-')),
+        Credit::Suppressed => at,
     }
 }
 
-// the byte before the digits of a negative number, 0 for none: "C, E, M, N drop the leading minus"
-fn sign_byte(credits: Credit) -> u8
-    ensures { when (ltb 0 result) result ≡ before_digits (credit_of credits) true }
+// the byte before the digits: "C, E, M, N drop the leading minus"
+#[tactic(auto, unfolding(paper::specs::Masks::before_digits, codes::specs::Meaning::credit_of, paper::specs::Bytes::bytes))]
+fn sign_byte(credits: Option<Credit>, negative: bool) -> Option<u8>
+    ensures { alone result ≡ before_digits (credit_of credits) negative }
 {
-    match credits {
-        Credit::Absent => b'-',
-        Credit::Debit => b'-',
-        Credit::Enclosed => b'<',
-        Credit::Credit => 0,
-        Credit::Trailing => 0,
-        Credit::Suppressed => 0,
+    if !negative {
+        return None;
+    }
+    let Some(credit) = credits else {
+        return Some(b'-');
+    };
+    match credit {
+        Credit::Debit => Some(b'-'),
+        Credit::Enclosed => Some(b'<'),
+        Credit::Credit | Credit::Trailing | Credit::Suppressed => None,
     }
 }
 
@@ -110,6 +113,7 @@ fn put_pair(text: &mut [u8], at: usize, on: bool, a: u8, b: u8) -> usize
 }
 
 // a byte, or a blank
+#[tactic(auto, unfolding(crate::specs::Pieces::or_blank))]
 fn or_blank(on: bool, b: u8) -> u8
     ensures { result ≡ or_blank on b }
 {
@@ -117,14 +121,19 @@ fn or_blank(on: bool, b: u8) -> u8
 }
 
 // one byte, or none
-fn put_when(text: &mut [u8], at: usize, on: bool, b: u8) -> usize
+#[tactic(auto, using(lent::proofs::Laying::laid_none))]
+fn put_some(text: &mut [u8], at: usize, byte: Option<u8>) -> usize
     requires { (1 ≤ at) × (at ≤ length text.old) }
-    ensures { Laid (when on b) text.old at text.new result }
+    ensures { Laid (alone byte) text.old at text.new result }
 {
-    if on { put(text, at, b) } else { at }
+    match byte {
+        Some(b) => put(text, at, b),
+        None => at,
+    }
 }
 
 // one byte in front of the text
+#[tactic(auto, using(lent::proofs::Laying::laid_one))]
 fn put(text: &mut [u8], at: usize, b: u8) -> usize
     requires { (1 ≤ at) × (at ≤ length text.old) }
     ensures { Laid (b ∷ []) text.old at text.new result }

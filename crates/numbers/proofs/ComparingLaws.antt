@@ -1,76 +1,39 @@
 -- Orders by numbers and by bytes, a byte at a time, against the definitions. Assumes nothing.
-use mathlib.Core.Path.{◌≡◌, refl, sym, ap, ◌∙◌}
-use mathlib.Core.Bool.{Bool, true, false, not}
-use mathlib.Core.Logic.{⊎_elim}
+use Rattle.std.specs.Prelude.{if◌then◌else◌}
+use mathlib.Core.Path.{◌≡◌, refl, sym}
+use mathlib.Core.Bool.{Bool, true, false}
+use mathlib.Core.List.{[], ◌∷◌}
 use mathlib.Core.Option.{Option, none, some}
-use Prim.Native.Nat.{ℕ, ◌+◌, ◌≤◌, ◌<◌}
-use native.Mathlib.Nat.{le_of_eq}
-use native.Mathlib.Numerals.{add-one}
+use Prim.Native.Nat.{◌<◌}
 use native.Mathlib.Omega.{arith}
 use lib.Dec.{leb, ltb, eqb}
-use lib.ListN.{length, get_or, drop, drop_of_length-le}
-use lib.Seq.{drop-cons}
 use borrow.Author.Tests.{lt-ltb, le-ltb, eq-eqb, ne_eqb}
+use Rattle.std.specs.declared.cmp.Ordering.{Ordering}
+use Rattle.std.specs.declared.cmp.Ordering.TheVariants.{Less, Equal, Greater}
+use Rattle.std.specs.Ordering.{nat_cmp, MatchOrdering, ordering_then}
+use Rattle.std.specs.Cmp.Lexicographic.{slice_cmp}
+use Rattle.std.proofs.lemmas.Cmp.{ranked}
 use Rattle.paper.specs.Bytes.{Bytes}
 use Rattle.paper.specs.Sizes.{number_most}
 use Rattle.paper.specs.Refusals.{Res, given, refused, ◌>>◌, refuse◌unless◌}
-use Rattle.paper.specs.Numbers.{Number as Whole, numeric, ranged, below, bytes_below, more, Order as Standing, order_by, compare_forms, compared, holds}
-use Rattle.paper.proofs.Truths.{ltb_or}
-use Rattle.codes.specs.declared.Relation.{Relation}
-use Rattle.codes.specs.Meaning.{relation_of}
-use Rattle.numbers.specs.declared.Order.{Order}
-use Rattle.numbers.specs.declared.Compared.{Compared}
+use Rattle.paper.specs.Numbers.{Number as Whole, numeric, ranged, below, bytes_below, Order as Standing, order_by, compare_forms, compared}
 use Rattle.numbers.specs.Forms.{in_range}
-use Rattle.numbers.specs.Orders.{order_of, compared_gives, compared_refusal, numbers_order, bytes_order}
-use Rattle.numbers.specs.Scans.{rank_of}
-
--- the rank stands to 1 as the relation asks
-abbrev pub rank_test : Relation → ℕ → Bool
-rank_test Relation.Equal rank = eqb rank 1
-rank_test Relation.Unequal rank = not (eqb rank 1)
-rank_test Relation.Greater rank = ltb 1 rank
-rank_test Relation.Lesser rank = ltb rank 1
-rank_test Relation.AtLeast rank = leb 1 rank
-rank_test Relation.AtMost rank = leb rank 1
-
-pub rank_holds : (r : Relation) (o : Order) → rank_test r (rank_of o) ≡ holds (relation_of r) (order_of o)
-unfolding holds relation_of order_of
-rank_holds Relation.Equal = elim [ Order.Less ↦ refl | Order.Same ↦ refl | Order.More ↦ refl ]
-rank_holds Relation.Unequal = elim [ Order.Less ↦ refl | Order.Same ↦ refl | Order.More ↦ refl ]
-rank_holds Relation.Greater = elim [ Order.Less ↦ refl | Order.Same ↦ refl | Order.More ↦ refl ]
-rank_holds Relation.Lesser = elim [ Order.Less ↦ refl | Order.Same ↦ refl | Order.More ↦ refl ]
-rank_holds Relation.AtLeast = elim [ Order.Less ↦ refl | Order.Same ↦ refl | Order.More ↦ refl ]
-rank_holds Relation.AtMost = elim [ Order.Less ↦ refl | Order.Same ↦ refl | Order.More ↦ refl ]
+use Rattle.numbers.specs.Orders.{order_of, numbers_order, bytes_order}
 
 -- by bytes: equal ones go by, the first that differ decide, and a prefix is smaller
-module _ (s t : Bytes) (i : ℕ) where
-  pub same_byte : i < length s → i < length t → get_or s i 0 ≡ get_or t i 0 → bytes_order (drop (i + 1) s) (drop (i + 1) t) ≡ bytes_order (drop i s) (drop i t)
-  unfolding bytes_order bytes_below
-  same_byte p q e =
-      rw (add-one i, drop-cons s i 0 p, drop-cons t i 0 q, eq-eqb (get_or s i 0) (get_or t i 0) e, eq-eqb (get_or t i 0) (get_or s i 0) (sym e))
-
-  pub other_byte : i < length s → i < length t → (get_or s i 0 ≡ get_or t i 0 → ⊥)
-      → order_by (ltb (get_or s i 0) (get_or t i 0)) (ltb (get_or t i 0) (get_or s i 0)) ≡ bytes_order (drop i s) (drop i t)
-  unfolding bytes_order bytes_below
-  other_byte p q n =
-      rw (drop-cons s i 0 p, drop-cons t i 0 q, ne_eqb (get_or s i 0) (get_or t i 0) n, ne_eqb (get_or t i 0) (get_or s i 0) (λ e. n (sym e)))
-
-  pub longer : i < length s → length t ≤ i → more ≡ bytes_order (drop i s) (drop i t)
-  unfolding bytes_order bytes_below
-  longer p q = rw (drop-cons s i 0 p, drop_of_length-le t q)
-
-  pub ended : length s ≡ i → i ≤ length t → order_by (ltb (length s) (length t)) (ltb (length t) (length s)) ≡ bytes_order (drop i s) (drop i t)
-  unfolding bytes_order bytes_below
-  ended e l =
-      ⊎_elim
-      (λ h. rw (drop_of_length-le s (le_of_eq e), lt-ltb (length s) (length t) h, drop-cons t i 0 (omega arith)))
-      (λ h. rw (
-        drop_of_length-le s (le_of_eq e),
-        le-ltb (length s) (length t) h,
-        le-ltb (length t) (length s) (omega arith),
-        drop_of_length-le t {i = i} (omega arith),
-      ))
-      (ltb_or (length s) (length t))
+pub bytes_compared : (s t : Bytes) → order_of (slice_cmp nat_cmp s t) ≡ bytes_order s t
+unfolding bytes_order bytes_below
+bytes_compared [] [] = refl
+bytes_compared [] (c ∷ cs) = refl
+bytes_compared (b ∷ bs) [] = refl
+bytes_compared (b ∷ bs) (c ∷ cs) = go (bytes_compared bs cs) (nat_cmp b c) (ranked b c (nat_cmp b c) refl)
+  where
+    go : order_of (slice_cmp nat_cmp bs cs) ≡ order_by (bytes_below bs cs) (bytes_below cs bs) → (o : Ordering) → MatchOrdering o (b < c) (b ≡ c) (c < b)
+        → order_of (ordering_then o (slice_cmp nat_cmp bs cs))
+        ≡ order_by (if eqb b c then bytes_below bs cs else ltb b c) (if eqb c b then bytes_below cs bs else ltb c b)
+    go onward Less h = rw (ne_eqb b c (λ e. omega arith), ne_eqb c b (λ e. omega arith), lt-ltb b c h)
+    go onward Equal h = rw (eq-eqb b c h, eq-eqb c b (sym h)) onward
+    go onward Greater h = rw (ne_eqb b c (λ e. omega arith), ne_eqb c b (λ e. omega arith), le-ltb b c (omega arith), lt-ltb c b h)
 
 -- by the forms of both
 module _ (second top : Bytes) where
@@ -113,7 +76,5 @@ module _ (second top : Bytes) where
           let m : w ≡ ranged y = cc in
           rw (l, m) (in_turn x y (leb x.size number_most) (leb y.size number_most))
 
--- the number of a refusal is passed up
-pub compared_passes : {r : Compared} {v : Res Standing} {n m : ℕ} → compared_gives r ≡ v → r ≡ Compared.Refused n → m ≡ compared_refusal r → v ≡ refused m
-unfolding compared_gives
-compared_passes e f k = sym e ∙ ap compared_gives f ∙ ap refused (sym (rw f at k))
+-- what comparing comes to, by the forms of both
+pub ruleset by_both = (second_apart, top_apart, both_numeric)

@@ -1,5 +1,5 @@
--- What each case of a reckoning says of the definitions, and what a number code (ML, MR and D alike) gives by it. Assumes nothing.
-use mathlib.Core.Path.{◌≡◌, refl, sym, ap, ◌∙◌}
+-- What a number code (ML, MR and D alike) gives by it. Assumes nothing.
+use mathlib.Core.Path.{◌≡◌, refl, ap, ◌∙◌}
 use mathlib.Core.List.{[], ◌∷◌}
 use mathlib.Core.Option.{Option, none, some}
 use Prim.Native.Nat.{ℕ, ◌≤◌}
@@ -13,19 +13,7 @@ use Rattle.paper.specs.Refusals.{Res, given, refused, ◌>>=◌, out_of_range}
 use Rattle.paper.specs.Numbers.{Number as Whole, numeric, ranged}
 use Rattle.paper.specs.Masks.{on_number, number_gives}
 use Rattle.paper.proofs.Predicates.{Holds, refuses, held_by, holds_unless}
-use Rattle.numbers.specs.declared.Number.{Number}
-use Rattle.numbers.specs.declared.Reckoned.{Reckoned}
-use Rattle.numbers.specs.Forms.{whole, reckoned_gives, reckoned_refusal, in_range, convertible}
-
--- a number and a refusal as the definitions have them; the refusal's number is passed up
-module _ {r : Reckoned} {v : Res Whole} (e : reckoned_gives r ≡ v) where
-  pub a_number : {x : Number} → r ≡ Reckoned.Number x → v ≡ given (whole x)
-  unfolding reckoned_gives
-  a_number f = sym e ∙ ap reckoned_gives f
-
-  pub passed_up : {n m : ℕ} → r ≡ Reckoned.Refused n → m ≡ reckoned_refusal r → v ≡ refused m
-  unfolding reckoned_gives
-  passed_up f k = sym e ∙ ap reckoned_gives f ∙ ap refused (sym (rw f at k))
+use Rattle.numbers.specs.Forms.{in_range, convertible}
 
 -- a number that was ranged is in range
 abbrev pub Small : Whole → Type 0
@@ -38,15 +26,6 @@ ranged_small x = holds_unless out_of_range (leb x.size number_most) x (leb-true 
 pub convertible_size : (o : Option Whole) (x : Whole) → convertible o ≡ given x → x.size ≤ number_most
 convertible_size none x h = held_by {P = Small} refuses h
 convertible_size (some y) x h = held_by (ranged_small y) h
-
--- the answers of `convertible`
-pub numeric_converts : (o : Option Whole) {v : Res Whole} → some v ≡ in_range o → v ≡ convertible o
-numeric_converts none h = cc
-numeric_converts (some x) h = cc
-
-pub other_refused : (o : Option Whole) → none ≡ in_range o → refused 12 ≡ convertible o
-other_refused none h = refl
-other_refused (some x) h = cc
 
 module _ (f : Whole → Res Bytes) where
   -- "empty stays empty"

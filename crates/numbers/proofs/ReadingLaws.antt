@@ -1,8 +1,8 @@
 -- Numeric form by scans, two over the blanks and one over the digits, which leaves a size over the limit as it is, against the definition. Assumes nothing.
 use Rattle.std.specs.Prelude.{if◌then◌else◌}
-use mathlib.Core.Path.{◌≡◌, refl, sym, ◌∙◌}
+use mathlib.Core.Path.{◌≡◌, refl, sym, ap, ◌∙◌}
 use mathlib.Core.Bool.{Bool, true, false, not, ◌&&◌}
-use mathlib.Core.List.{[], ◌∷◌}
+use mathlib.Core.List.{[], ◌∷◌, ◌++◌}
 use mathlib.Core.Logic.{◌⊎◌, inl, inr, ⊎_elim}
 use mathlib.Core.Option.{none, some}
 use Prim.Native.Nat.{ℕ, zero, suc, ◌+◌, ◌-◌, ◌*◌, ◌≤◌, ◌<◌}
@@ -11,8 +11,9 @@ use native.Mathlib.Numerals.{add-one}
 use native.Mathlib.Omega.{arith}
 use lib.Dec.{eqb}
 use lib.ListN.{length, get_or, take, drop, drop_of_length-le}
-use lib.Seq.{drop-cons}
+use lib.Seq.{drop-cons, take-length}
 use borrow.Author.Tests.{le-leb, lt-leb, ne_eqb, eqb-true, eqb-false, not-true}
+use Rattle.std.specs.Char.{is_ascii_digit}
 use Rattle.paper.specs.Bytes.{Bytes, is_digit, digit_value}
 use Rattle.paper.specs.Sizes.{number_most}
 use Rattle.paper.specs.Refusals.{given, refused}
@@ -43,18 +44,15 @@ held negative n d bs =
     (ltb_or number_most n)
 
 -- a turn of the scan: a digit goes in, another byte ends it
-pub digit_goes : (negative : Bool) (s : Bytes) (n i : ℕ) → i < length s → 48 ≤ get_or s i 0 → get_or s i 0 ≤ 57
-    → value_form negative (value (raised n (digit_value (get_or s i 0))) (drop (i + 1) s)) ≡ value_form negative (value n (drop i s))
-unfolding value is_digit
-digit_goes negative s n i h low high =
-    held negative n (digit_value (get_or s i 0)) (drop (i + 1) s)
-    ∙ rw (add-one i, drop-cons s i 0 h, le-leb 48 (get_or s i 0) low, le-leb (get_or s i 0) 57 high)
+module _ (negative : Bool) (s : Bytes) (n i : ℕ) (h : i < length s) where
+  pub digit_goes : is_ascii_digit (get_or s i 0) ≡ true
+      → value_form negative (value (raised n (digit_value (get_or s i 0))) (drop (i + 1) s)) ≡ value_form negative (value n (drop i s))
+  unfolding value is_digit
+  digit_goes e = held negative n (digit_value (get_or s i 0)) (drop (i + 1) s) ∙ rw (add-one i, drop-cons s i 0 h, e)
 
-pub other_ends : (negative : Bool) (s : Bytes) (n i : ℕ) → i < length s → (get_or s i 0 < 48) ⊎ (57 < get_or s i 0)
-    → none ≡ value_form negative (value n (drop i s))
-unfolding value_form value is_digit
-other_ends negative s n i h (inl low) = rw (drop-cons s i 0 h, lt-leb 48 (get_or s i 0) low)
-other_ends negative s n i h (inr high) = rw (drop-cons s i 0 h, le-leb 48 (get_or s i 0) (omega arith), lt-leb (get_or s i 0) 57 high)
+  pub other_ends : is_ascii_digit (get_or s i 0) ≡ false → none ≡ value_form negative (value n (drop i s))
+  unfolding value_form value is_digit
+  other_ends e = rw (drop-cons s i 0 h, e)
 
 pub at_end : (negative : Bool) (s : Bytes) (n i : ℕ) → length s ≤ i → some (ranged (signed negative n)) ≡ value_form negative (value n (drop i s))
 unfolding value_form value
@@ -97,39 +95,41 @@ nothing_around s h =
     sym (none_around s (eqb-false first 32 (not-true (eqb first 32) ends.0)) (eqb-false last 32 (not-true (eqb last 32) ends.1)))
 
 -- the blanks before: one more is passed, another byte ends them, or no byte is left
-pub blank_goes : (s : Bytes) (i : ℕ) → i < length s → eqb (get_or s i 0) 32 ≡ true → after_blanks (drop (i + 1) s) ≡ after_blanks (drop i s)
+pub first_passed : (s : Bytes) → 1 ≤ length s → get_or s 0 0 ≡ 32 → after_blanks (take (length s - 1) (drop 1 s)) ≡ after_blanks s
 unfolding after_blanks
-blank_goes s i h e = rw (add-one i, drop-cons s i 0 h, e)
+first_passed [] h e = absurd (omega arith)
+first_passed (b ∷ bs) h e = let k : suc (length bs) - 1 ≡ length bs = omega arith in rw (k, e, take-length bs)
 
-pub front_found : (s : Bytes) (i : ℕ) → i < length s → eqb (get_or s i 0) 32 ≡ false → drop i s ≡ after_blanks (drop i s)
+pub first_stays : (s : Bytes) → 1 ≤ length s → (get_or s 0 0 ≡ 32 → ⊥) → s ≡ after_blanks s
 unfolding after_blanks
-front_found s i h e = rw (drop-cons s i 0 h, e)
+first_stays [] h e = refl
+first_stays (b ∷ bs) h e = rw (ne_eqb b 32 e)
 
-pub front_end : (s : Bytes) (i : ℕ) → length s ≤ i → drop i s ≡ after_blanks (drop i s)
+pub none_first : (s : Bytes) → length s < 1 → s ≡ after_blanks s
 unfolding after_blanks
-front_end s i h = rw (drop_of_length-le s h)
+none_first [] h = refl
+none_first (b ∷ bs) h = absurd (omega arith)
 
 -- the blanks after: one more is left out, another byte ends them, or no byte is left
-module _ (s : Bytes) (end : ℕ) (some_left : 0 < end) (inside : end ≤ length s) where
-  pub blank_left : eqb (get_or s (end - 1) 0) 32 ≡ true → before_blanks (take (end - 1) s) ≡ before_blanks (take end s)
-  blank_left e = rw (last_byte s end some_left inside, eqb-true (get_or s (end - 1) 0) 32 e) (sym (blank_after (take (end - 1) s)))
+pub last_passed : (s : Bytes) → 1 ≤ length s → get_or s (length s - 1) 0 ≡ 32 → before_blanks (take (length s - 1) s) ≡ before_blanks s
+last_passed s h e =
+    sym (ap before_blanks (sym (take-length s) ∙ last_byte s (length s) h (omega arith) ∙ rw e) ∙ blank_after (take (length s - 1) s))
 
-  pub back_found : eqb (get_or s (end - 1) 0) 32 ≡ false → take end s ≡ before_blanks (take end s)
-  back_found e = rw (last_byte s end some_left inside) (sym (other_after (take (end - 1) s) (get_or s (end - 1) 0) (eqb-false (get_or s (end - 1) 0) 32 e)))
+pub last_stays : (s : Bytes) → 1 ≤ length s → (get_or s (length s - 1) 0 ≡ 32 → ⊥) → s ≡ before_blanks s
+last_stays s h e =
+    let k : s ≡ take (length s - 1) s ++ get_or s (length s - 1) 0 ∷ [] = sym (take-length s) ∙ last_byte s (length s) h (omega arith) in
+    k ∙ sym (other_after (take (length s - 1) s) (get_or s (length s - 1) 0) e) ∙ ap before_blanks (sym k)
 
-pub back_end : (s : Bytes) (end : ℕ) → end ≤ 0 → take end s ≡ before_blanks (take end s)
+pub none_last : (s : Bytes) → length s < 1 → s ≡ before_blanks s
 unfolding before_blanks after_blanks
-back_end s zero h = refl
-back_end s (suc i) h = absurd (not-suc-le-zero h)
+none_last [] h = refl
+none_last (b ∷ bs) h = absurd (omega arith)
 
--- what stands from an end on, and from before it
-pub none_from : (negative : Bool) (s : Bytes) (i : ℕ) → i ≡ length s → none ≡ in_range (digits_alone negative (drop i s))
-none_from negative s i h = rw (drop_of_length-le s (le_of_eq (sym h)))
-
-pub some_from : (negative : Bool) (s : Bytes) (i : ℕ) → i < length s
-    → value_form negative (value 0 (drop i s)) ≡ in_range (digits_alone negative (drop i s))
+-- no byte, and some
+pub some_digits : (negative : Bool) (s : Bytes) → (length s ≡ 0 → ⊥) → value_form negative (value 0 s) ≡ in_range (digits_alone negative s)
 unfolding value_form
-some_from negative s i h = rw (drop-cons s i 0 h)
+some_digits negative [] h = absurd (h refl)
+some_digits negative (b ∷ bs) h = refl
 
 -- a size by the limit
 pub over_limit : (x : Whole) → number_most < x.size → refused 10 ≡ ranged x
@@ -139,3 +139,12 @@ over_limit x h = rw (lt-leb x.size number_most h)
 pub in_limit : (x : Whole) → x.size ≤ number_most → given x ≡ ranged x
 unfolding ranged
 in_limit x h = rw (le-leb x.size number_most h)
+
+-- the laws of each reader
+pub ruleset no_blanks = (nothing_within, nothing_around)
+
+pub ruleset first_blanks = (first_passed, first_stays, none_first)
+
+pub ruleset last_blanks = (last_passed, last_stays, none_last)
+
+pub ruleset in_turn = (digit_goes, other_ends, at_end)

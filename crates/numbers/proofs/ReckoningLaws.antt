@@ -1,5 +1,5 @@
 -- Operands, and arithmetic on a sign and a size, against the definitions. Assumes nothing.
-use mathlib.Core.Path.{◌≡◌, refl, ◌∙◌}
+use mathlib.Core.Path.{◌≡◌, refl, sym, ◌∙◌}
 use mathlib.Core.Option.{Option, none, some}
 use Prim.Native.Nat.{ℕ, ◌*◌, ◌/◌, ◌^◌, ◌≤◌}
 use native.Mathlib.Nat.{mul_comm, div-lt_iff_lt-mul}
@@ -9,25 +9,35 @@ use borrow.Author.Tests.{lt-ltb, ltb-true}
 use Rattle.paper.specs.Bytes.{Bytes}
 use Rattle.paper.specs.Sizes.{number_most}
 use Rattle.paper.specs.Refusals.{Res, given, refused, ◌>>=◌}
-use Rattle.paper.specs.Numbers.{Number as Whole, signed, natural, ranged, or_zero, number, number_text, times, quotient, arithmetic, binary_gives}
+use Rattle.paper.specs.Numbers.{Number as Whole, signed, natural, ranged, or_zero, numeric, number, number_text, times, quotient, arithmetic, binary_gives}
 use Rattle.paper.proofs.Truths.{alike}
-use Rattle.paper.proofs.Predicates.{Holds, holds_after}
+use Rattle.paper.proofs.Predicates.{held_by, holds_after}
+use Rattle.std.specs.Prelude.{false, Result, Ok, None, Some}
+use Rattle.std.specs.Prelude.{Option as Maybe}
+use Rattle.std.specs.Option.{unwrap_or}
+use Rattle.paper.specs.declared.Refusal.{Refusal}
+use Rattle.paper.specs.Answers.{told_by, maybe_by}
 use Rattle.codes.specs.declared.Arithmetic.{Arithmetic}
 use Rattle.codes.specs.Meaning.{arithmetic_of}
-use Rattle.numbers.specs.Forms.{in_range}
+use Rattle.numbers.specs.declared.Number.{Number}
+use Rattle.numbers.specs.Forms.{whole, in_range}
 use Rattle.numbers.specs.Reckonings.{operated, reckoning, calculation}
 use Rattle.numbers.proofs.FormLaws.{Small, ranged_small}
 use Rattle.numbers.proofs.ReadingLaws.{in_limit}
 
 -- an operand by its form
-pub numeric_operand : (o : Option Whole) {v : Res Whole} → some v ≡ in_range o → v ≡ ranged (or_zero o)
-numeric_operand none h = cc
-numeric_operand (some x) h = cc
-
-pub other_operand : (o : Option Whole) → none ≡ in_range o → given (natural 0) ≡ ranged (or_zero o)
+pub read_operand : (r : Maybe (Result Number Refusal)) (o : Option Whole) → maybe_by (told_by whole) r ≡ in_range o
+    → told_by whole (unwrap_or r (Ok (record { negative = false; size = 0 }))) ≡ ranged (or_zero o)
 unfolding ranged natural
-other_operand none h = refl
-other_operand (some x) h = cc
+read_operand None none h = refl
+read_operand None (some x) h = cc
+read_operand (Some v) none h = cc
+read_operand (Some v) (some x) h = cc
+
+-- one that is read is in range
+pub number_small : (s : Bytes) (x : Number) → given (whole x) ≡ number s → x.size ≤ number_most
+unfolding number
+number_small s x h = held_by {P = Small} (ranged_small (or_zero (numeric s))) (sym h)
 
 -- "the undivided product must be in range"
 pub product_scaled : (x y : Whole) (n : ℕ) {k : ℕ} {p q : Whole} → x.size * y.size ≤ number_most → p ≡ times x y → k ≡ 10 ^ n
@@ -43,9 +53,10 @@ product_passes a b h =
     (λ l. lt-ltb (number_most / a) b ((div-lt_iff_lt-mul {k = a} (omega arith)).1 (rw (mul_comm a b) at (ltb-true number_most (a * b) l))))
 
 -- a reckoning ends in a number in range
-pub calculated_small : (op : Arithmetic) (s t : Bytes) → Holds Small (calculation op s t)
+pub calculated_small : (op : Arithmetic) (s t : Bytes) (x : Number) → given (whole x) ≡ calculation op s t → x.size ≤ number_most
 unfolding calculation reckoning
-calculated_small op s t = holds_after (number s) (λ x _. holds_after (number t) (λ y _. holds_after (operated op x y) (λ z _. ranged_small z)))
+calculated_small op s t x h =
+    held_by {P = Small} (holds_after (number s) (λ x _. holds_after (number t) (λ y _. holds_after (operated op x y) (λ z _. ranged_small z)))) (sym h)
 
 -- the text of what two entries give as numbers
 pub texted : (op : Arithmetic) (s t : Bytes) → binary_gives (arithmetic_of op) s t ≡ (calculation op s t >>= λ r. given (number_text r))

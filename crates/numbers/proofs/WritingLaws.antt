@@ -1,5 +1,5 @@
 -- Digits written from the last one backwards, and text at the front of a buffer, over plain lists. Assumes nothing.
-use mathlib.Core.Path.{◌≡◌, sym, ap, ◌∙◌}
+use mathlib.Core.Path.{◌≡◌, refl, sym, ap, ◌∙◌}
 use mathlib.Core.Bool.{true, false}
 use mathlib.Core.List.{[], ◌∷◌, ◌++◌, append_assoc}
 use mathlib.Core.Logic.{◌⊎◌, inl, inr}
@@ -9,10 +9,12 @@ use native.Mathlib.Numerals.{add-one, one-add}
 use native.Mathlib.Omega.{arith}
 use lib.ListN.{length, take, drop, set, length-set, take-append-drop}
 use lib.Seq.{append_snoc, drop-cons, get_or-set_same, drop-set-lt, take-set-le, take-take}
+use Rattle.std.specs.Prelude.{Option, None, Some}
+use Rattle.std.specs.Option.{MatchOption, unwrap_or}
 use Rattle.paper.specs.Bytes.{Bytes}
 use Rattle.paper.specs.Sizes.{number_digits, number_most}
 use Rattle.paper.specs.Numbers.{Number, digits, decimal, number_text}
-use Rattle.paper.proofs.Numerals.{decimal_digits, length_digits}
+use Rattle.paper.proofs.Numerals.{decimal_digits, length_digits, length_decimal}
 
 drop_set : (d : Bytes) (m v : ℕ) → m < length d → drop m (set d m v) ≡ v ∷ drop (suc m) d
 drop_set d m v h =
@@ -53,11 +55,18 @@ widened (suc k) n l s h w = let e : suc k - 1 ≡ k = omega arith in decimal_dig
     go (inl g) = inl (omega arith)
     go (inr g) = inr g
 
-pub one_more : (k n : ℕ) → 10 ^ k ≤ n → 10 ^ (k + 1 - 1) ≤ n
-one_more k n h = let e : k + 1 - 1 ≡ k = omega arith in rw e h
-
-pub all_digits : (k n : ℕ) → k ≡ number_digits → n ≤ number_most → n < 10 ^ k
-all_digits k n e h = rw e (omega arith)
+-- so is the first k under the limit whose power of ten is above the size, and the limit if there is none
+pub width_found : (n : ℕ) (o : Option ℕ) → n ≤ number_most
+    → MatchOption o ((k : ℕ) → 1 ≤ k → k < number_digits → 10 ^ k ≤ n)
+    (λ i. (1 ≤ i) × (i < number_digits) × (n < 10 ^ i) × ((k : ℕ) → 1 ≤ k → k < i → 10 ^ k ≤ n))
+    → decimal n ≡ digits (unwrap_or o number_digits) n
+width_found n None h f = widened number_digits n (omega arith) (omega arith) (omega arith) (inr (f 14 (omega arith) (omega arith)))
+width_found n (Some i) h (low, high, above, before) = widened i n low (omega arith) above (go i low before)
+  where
+    go : (i : ℕ) → 1 ≤ i → ((k : ℕ) → 1 ≤ k → k < i → 10 ^ k ≤ n) → (i ≡ 1) ⊎ (10 ^ (i - 1) ≤ n)
+    go zero l f = absurd (not-suc-le-zero l)
+    go (suc zero) l f = inl refl
+    go (suc (suc j)) l f = let e : suc (suc j) - 1 ≡ suc j = omega arith in inr (rw e (f (suc j) (omega arith) (omega arith)))
 
 pub wide : (k n : ℕ) → decimal n ≡ digits k n → k ≡ length (decimal n)
 wide k n e = sym (ap length e ∙ length_digits k n)
@@ -84,3 +93,6 @@ module _ (x : Number) (r : ℕ) (d e : Bytes) where
       → (r ≡ length (number_text x)) × (e ≡ number_text x ++ drop (length (number_text x)) d)
   unfolding number_text
   plain_written t l h = rw t (l, h ∙ rw zero-add)
+
+-- a decimal text at its place
+pub ruleset placed = (wide, decimal_placed, length_decimal)

@@ -1,24 +1,14 @@
 -- The paper's order for each case of the code's, and what comparing gives by the forms of both.
-use Rattle.std.specs.Prelude.{ℕ}
+use Rattle.std.specs.declared.cmp.Ordering.{Ordering}
+use Rattle.std.specs.declared.cmp.Ordering.TheVariants.{Less, Equal, Greater}
 use Rattle.paper.specs.Bytes.{Bytes}
-use Rattle.paper.specs.Refusals.{Res, given, refused, ◌>>=◌}
+use Rattle.paper.specs.Refusals.{Res, given, ◌>>=◌}
 use Rattle.paper.specs.Numbers.{Number as Whole, below, bytes_below, Order as Standing, less, same, more, order_by}
-use Rattle.numbers.specs.declared.Order.{Order}
-use Rattle.numbers.specs.declared.Compared.{Compared}
 
-unfoldable pub order_of : Order → Standing
-order_of Order.Less = less
-order_of Order.Same = same
-order_of Order.More = more
-
-unfoldable pub compared_gives : Compared → Res Standing
-compared_gives (Compared.Ordered o) = given (order_of o)
-compared_gives (Compared.Refused n) = refused n
-
--- the refusal's number, 0 for none
-abbrev pub compared_refusal : Compared → ℕ
-compared_refusal (Compared.Ordered o) = 0
-compared_refusal (Compared.Refused n) = n
+abbrev pub order_of : Ordering → Standing
+order_of Less = less
+order_of Equal = same
+order_of Greater = more
 
 -- "as numbers when both have numeric form"
 unfoldable pub numbers_order : Res Whole → Res Whole → Res Standing

@@ -4,7 +4,6 @@ use Rattle.std.proofs.Math.Option.{Option}
 use Rattle.paper.specs.Sizes.{number_most}
 use Rattle.paper.specs.Refusals.{Res}
 use Rattle.paper.specs.Numbers.{Number as Whole, as_signed}
-use Rattle.numbers.specs.declared.Order.{Order}
 use Rattle.numbers.specs.Forms.{in_range}
 
 -- one digit more, unless the size is over the limit already: no digit can bring it back
@@ -14,9 +13,3 @@ raised n d = if leb n number_most then n * 10 + d else n
 -- what a sign and the value of what follows it give as a number
 unfoldable pub value_form : Bool → Option ℕ → Option (Res Whole)
 value_form negative o = in_range (as_signed negative o)
-
--- below 1 for less, 1 for the same, above it for more
-abbrev pub rank_of : Order → ℕ
-rank_of Order.Less = 0
-rank_of Order.Same = 1
-rank_of Order.More = 2

@@ -11,15 +11,15 @@ pub mod writing;
 
 ghost use Rattle.std.specs.Prelude.{◌≡◌};
 ghost use Rattle.paper.specs.Numbers.{signed};
-ghost use Rattle.numbers.specs.Forms.{whole, reckoned_refusal};
-ghost use Rattle.numbers.specs.Orders.{compared_refusal};
+ghost use Rattle.numbers.specs.Forms.{whole};
 
 use paper::Limit;
+use std::fmt;
 
 // The largest size of a number, as a number has it.
 pub const MOST: u64 = Limit::NUMBER.most as u64;
 
-// A whole number. Zero has no sign.
+// A whole number. Zero has no sign. Its range is no invariant: sums are made before they are held against the limit (`reading::ranged`).
 #[derive(Clone, Copy)]
 pub struct Number {
     pub negative: bool,
@@ -27,7 +27,14 @@ pub struct Number {
 }
 
 impl Number {
-    pub(crate) fn signed(negative: bool, size: u64) -> Self
+    pub const ZERO: Self = Self {
+        negative: false,
+        size: 0,
+    };
+
+    // a sign and a size; zero has no sign
+    #[tactic(auto, unfolding(paper::specs::Numbers::signed))]
+    pub fn signed(negative: bool, size: u64) -> Self
         ensures { whole result ≡ signed negative size }
     {
         Self {
@@ -37,55 +44,11 @@ impl Number {
     }
 }
 
-// What reckoning gives: a number, or the refusal's number.
-#[derive(Clone, Copy)]
-pub enum Reckoned {
-    Number(Number),
-    Refused(u64),
-}
-
-impl Reckoned {
-    // the number to pass up where this is a refusal
-    pub fn refusal(self) -> u64
-        ensures { result ≡ reckoned_refusal self }
-    {
-        match self {
-            Reckoned::Number(_) => 0,
-            Reckoned::Refused(number) => number,
-        }
-    }
-}
-
-// A string's numeric form: its value, 10 where that is out of range; or none.
-#[derive(Clone, Copy)]
-enum Form {
-    Numeric(Reckoned),
-    NotNumeric,
-}
-
-// How the second entry stands to the top.
-#[derive(Clone, Copy)]
-enum Order {
-    Less,
-    Same,
-    More,
-}
-
-// What comparing gives: an order, or the refusal's number.
-#[derive(Clone, Copy)]
-enum Compared {
-    Ordered(Order),
-    Refused(u64),
-}
-
-impl Compared {
-    // the number to pass up where this is a refusal
-    fn refusal(self) -> u64
-        ensures { result ≡ compared_refusal self }
-    {
-        match self {
-            Compared::Ordered(_) => 0,
-            Compared::Refused(number) => number,
-        }
+// A sign and a size, as the programs print a day.
+impl fmt::Display for Number {
+    fn fmt<W: fmt::Write>(&self, f: &mut fmt::Formatter<W>) -> fmt::Result {
+        let sign = if self.negative { "-" } else { "" };
+        let size = self.size;
+        write!(f, "{sign}{size}")
     }
 }

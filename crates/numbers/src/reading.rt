@@ -1,30 +1,32 @@
 // Numeric form and its value: `form` alone decides what has numeric form.
 ghost use Rattle.std.specs.Prelude.{◌≡◌, ◌≤◌, length, drop};
+ghost use Rattle.paper.specs.Answers.{told_by, maybe_by};
 ghost use Rattle.paper.specs.Bytes.{digit_value};
 ghost use Rattle.paper.specs.Numbers.{value, digits_alone, sign_and_digits, after_blanks, before_blanks, within_blanks, numeric, ranged};
-ghost use Rattle.numbers.specs.Forms.{whole, reckoned_gives, form_gives, in_range, convertible};
+ghost use Rattle.numbers.specs.Forms.{whole, in_range, convertible};
 ghost use Rattle.numbers.specs.Scans.{raised, value_form};
 
-use crate::{Form, MOST, Number, Reckoned};
+use crate::{MOST, Number};
+use paper::Refusal;
 
 // What ML, MR and D convert: "other non-numeric is 12"
-pub fn convertible(e: &[u8]) -> Reckoned
-    ensures { reckoned_gives result ≡ convertible (numeric e.now) }
+pub fn convertible(e: &[u8]) -> Result<Number, Refusal>
+    ensures { told_by whole result ≡ convertible (numeric e.now) }
 {
-    let Form::Numeric(value) = form(e) else {
-        return Reckoned::Refused(paper::refusal::NOT_CONVERTIBLE);
-    };
-    value
+    form(e).unwrap_or(Err(Refusal::NotConvertible))
 }
 
 // "Numeric form should ignore blanks (byte 32) before and after, not between." (document 02, L3)
-pub(crate) fn form(s: &[u8]) -> Form
-    ensures { form_gives result ≡ in_range (numeric s.now) }
+// A string's numeric form, if it has one: its value, 10 where that is out of range.
+#[tactic(auto, unfolding(paper::specs::Numbers::numeric))]
+pub(crate) fn form(s: &[u8]) -> Option<Result<Number, Refusal>>
+    ensures { maybe_by (told_by whole) result ≡ in_range (numeric s.now) }
 {
     sign_and_digits(within_blanks(s))
 }
 
 // The part of a text that is read: what stands within its blanks. Most have none, and two looks tell it.
+#[tactic(auto, unfolding(paper::specs::Numbers::within_blanks), using(crate::proofs::ReadingLaws::no_blanks))]
 fn within_blanks(s: &[u8]) -> &[u8]
     ensures { result.now ≡ within_blanks s.now }
 {
@@ -39,77 +41,78 @@ fn within_blanks(s: &[u8]) -> &[u8]
 }
 
 // What stands after the blanks that come first.
-fn after_blanks(s: &[u8]) -> &[u8]
+#[tactic(auto, using(crate::proofs::ReadingLaws::first_blanks))]
+fn after_blanks(mut s: &[u8]) -> &[u8]
     ensures { result.now ≡ after_blanks s.now }
 {
-    let mut i = 0;
-    while i < s.len() && s[i] == b' ' {
-        i += 1;
+    while let [first, rest @ ..] = s
+        && *first == b' '
+    {
+        s = rest;
     }
-    &s[i..]
+    s
 }
 
 // What stands before the blanks that come last.
-fn before_blanks(s: &[u8]) -> &[u8]
+#[tactic(auto, using(crate::proofs::ReadingLaws::last_blanks))]
+fn before_blanks(mut s: &[u8]) -> &[u8]
     ensures { result.now ≡ before_blanks s.now }
 {
-    let mut end = s.len();
-    while 0 < end && s[end - 1] == b' ' {
-        end -= 1;
+    while let [rest @ .., last] = s
+        && *last == b' '
+    {
+        s = rest;
     }
-    &s[0..end]
+    s
 }
 
 // "an optional `+` or `-`, then one or more digits"
-fn sign_and_digits(s: &[u8]) -> Form
-    ensures { form_gives result ≡ in_range (sign_and_digits s.now) }
+fn sign_and_digits(s: &[u8]) -> Option<Result<Number, Refusal>>
+    ensures { maybe_by (told_by whole) result ≡ in_range (sign_and_digits s.now) }
 {
-    if s.len() == 0 {
-        return Form::NotNumeric; // "blanks alone is still not numeric": nothing stands within them
+    if s.is_empty() {
+        return None; // "blanks alone is still not numeric": nothing stands within them
     }
     let first = s[0];
     let mut at = 0;
-    // most begin with a digit, and one look lets them by; a sign is jumped over, so that the digits do not wait for it
+    // Most begin with a digit, and one look lets them by; a sign is jumped over, so that the digits do not wait for it (a match in its place: slower).
     if first < b'0' {
         match first {
             b'+' | b'-' => at = 1,
-            _ => return Form::NotNumeric,
+            _ => return None,
         }
     }
-    digits_alone(s, at, first == b'-')
+    digits_alone(&s[at..], first == b'-')
 }
 
-// "then one or more digits": what stands from `at` on
-fn digits_alone(s: &[u8], at: usize, negative: bool) -> Form
-    requires { at ≤ length s.now }
-    ensures { form_gives result ≡ in_range (digits_alone negative (drop at s.now)) }
+// "then one or more digits"
+#[tactic(auto, using(crate::proofs::ReadingLaws::some_digits))]
+fn digits_alone(s: &[u8], negative: bool) -> Option<Result<Number, Refusal>>
+    ensures { maybe_by (told_by whole) result ≡ in_range (digits_alone negative s.now) }
 {
-    if at == s.len() {
-        return Form::NotNumeric;
+    if s.is_empty() {
+        return None;
     }
-    value_from(s, at, negative)
+    value_form(s, negative)
 }
 
-// the value of the digits from `at` on
-fn value_from(s: &[u8], at: usize, negative: bool) -> Form
-    requires { at ≤ length s.now }
-    ensures { form_gives result ≡ value_form negative (value 0 (drop at s.now)) }
+// the value of the digits
+#[tactic(auto, using(crate::proofs::ReadingLaws::in_turn))]
+fn value_form(s: &[u8], negative: bool) -> Option<Result<Number, Refusal>>
+    ensures { maybe_by (told_by whole) result ≡ value_form negative (value 0 s.now) }
 {
     let mut size: u64 = 0;
-    let mut i = at;
-    while i < s.len() {
-        let b = s[i];
-        match b {
-            b'0'..=b'9' => {}
-            _ => return Form::NotNumeric,
+    for &b in s {
+        if !b.is_ascii_digit() {
+            return None;
         }
         size = raised(size, b);
-        i += 1;
     }
-    Form::Numeric(ranged(Number::signed(negative, size)))
+    Some(ranged(Number::signed(negative, size)))
 }
 
 // one digit more; a size over the limit stays as it is, however many digits follow
+#[tactic(auto, unfolding(crate::specs::Scans::raised, paper::specs::Bytes::digit_value))]
 fn raised(size: u64, b: u8) -> u64
     requires { (48 ≤ b) × (b ≤ 57) }
     ensures { result ≡ raised size (digit_value b) }
@@ -117,15 +120,16 @@ fn raised(size: u64, b: u8) -> u64
     if MOST < size {
         return size;
     }
-    size * 10 + (b - b'0') as u64
+    size * 10 + u64::from(b - b'0')
 }
 
 // a number in range, or 10
-pub(crate) fn ranged(x: Number) -> Reckoned
-    ensures { reckoned_gives result ≡ ranged (whole x) }
+#[tactic(auto, using(crate::proofs::ReadingLaws::over_limit, crate::proofs::ReadingLaws::in_limit))]
+pub(crate) fn ranged(x: Number) -> Result<Number, Refusal>
+    ensures { told_by whole result ≡ ranged (whole x) }
 {
     if MOST < x.size {
-        return Reckoned::Refused(paper::refusal::OUT_OF_RANGE);
+        return Err(Refusal::OutOfRange);
     }
-    Reckoned::Number(x)
+    Ok(x)
 }

@@ -1,40 +1,33 @@
 // Arithmetic of F: both entries as numbers, and what two numbers give. Sizes in range never wrap.
 ghost use Rattle.std.specs.Prelude.{◌≡◌, ◌*◌, ◌≤◌, ◌<◌, ltb};
+ghost use Rattle.paper.specs.Answers.{told_by};
 ghost use Rattle.paper.specs.Sizes.{number_digits, number_most};
-ghost use Rattle.paper.specs.Numbers.{number, differ, plus, negated, quotient, remainder};
+ghost use Rattle.paper.specs.Numbers.{number, plus, negated, quotient, remainder};
 ghost use Rattle.codes.specs.declared.Arithmetic.TheVariants.{Multiply, Divide, Rest, Add, Subtract};
-ghost use Rattle.numbers.specs.Forms.{whole, reckoned_gives};
+ghost use Rattle.numbers.specs.Forms.{whole};
 ghost use Rattle.numbers.specs.Operators.{scales};
 ghost use Rattle.numbers.specs.Reckonings.{reckoning, calculation};
 
 use crate::reading::ranged;
-use crate::{Form, MOST, Number, Reckoned, reading, writing};
+use crate::{MOST, Number, reading, writing};
 use codes::Arithmetic;
+use paper::Refusal;
 
 // "Arithmetic, start and length take other strings, the empty one included, as 0."
-pub(crate) fn operand(s: &[u8]) -> Reckoned
-    ensures { reckoned_gives result ≡ number s.now }
+#[tactic(auto, unfolding(paper::specs::Numbers::number), using(crate::proofs::ReckoningLaws::read_operand))]
+pub(crate) fn operand(s: &[u8]) -> Result<Number, Refusal>
+    ensures { told_by whole result ≡ number s.now }
 {
-    let Form::Numeric(value) = reading::form(s) else {
-        return Reckoned::Number(Number {
-            negative: false,
-            size: 0,
-        });
-    };
-    value
+    reading::form(s).unwrap_or(Ok(Number::ZERO))
 }
 
-fn differ(a: bool, b: bool) -> bool
-    ensures { result ≡ differ a b }
-{
-    if a { !b } else { b }
-}
-
+// The operations are free functions: each asks something of its sizes, and traits of operators with those requirements are no plainer.
+#[tactic(auto, unfolding(paper::specs::Numbers::plus))]
 fn plus(x: Number, y: Number) -> Number
     requires { (x.size ≤ number_most) × (y.size ≤ number_most) }
     ensures { whole result ≡ plus (whole x) (whole y) }
 {
-    if differ(x.negative, y.negative) {
+    if x.negative != y.negative {
         if y.size <= x.size {
             return Number::signed(x.negative, x.size - y.size);
         }
@@ -43,6 +36,7 @@ fn plus(x: Number, y: Number) -> Number
     Number::signed(x.negative, x.size + y.size)
 }
 
+#[tactic(auto, unfolding(paper::specs::Numbers::negated))]
 fn negated(x: Number) -> Number
     ensures { whole result ≡ negated (whole x) }
 {
@@ -50,14 +44,16 @@ fn negated(x: Number) -> Number
 }
 
 // "truncated toward zero"
+#[tactic(auto, unfolding(paper::specs::Numbers::quotient))]
 fn quotient(x: Number, y: Number) -> Number
     requires { 0 < y.size }
     ensures { whole result ≡ quotient (whole x) (whole y) }
 {
-    Number::signed(differ(x.negative, y.negative), x.size / y.size)
+    Number::signed(x.negative != y.negative, x.size / y.size)
 }
 
 // "`R` has the sign of the second entry"
+#[tactic(auto, unfolding(paper::specs::Numbers::remainder))]
 fn remainder(x: Number, y: Number) -> Number
     requires { 0 < y.size }
     ensures { whole result ≡ remainder (whole x) (whole y) }
@@ -66,6 +62,7 @@ fn remainder(x: Number, y: Number) -> Number
 }
 
 // whether a product is out of range, told without making it
+#[tactic(auto, using(crate::proofs::ReckoningLaws::product_passes))]
 fn passes(a: u64, b: u64) -> bool
     ensures { result ≡ ltb number_most (a * b) }
 {
@@ -75,79 +72,75 @@ fn passes(a: u64, b: u64) -> bool
     MOST / a < b
 }
 
-fn add(x: Number, y: Number) -> Reckoned
+#[tactic(auto, unfolding(crate::specs::Reckonings::reckoning, crate::specs::Reckonings::operated))]
+fn add(x: Number, y: Number) -> Result<Number, Refusal>
     requires { (x.size ≤ number_most) × (y.size ≤ number_most) }
-    ensures { reckoned_gives result ≡ reckoning Add (whole x) (whole y) }
+    ensures { told_by whole result ≡ reckoning Add (whole x) (whole y) }
 {
     ranged(plus(x, y))
 }
 
 // "`-` is second minus top"
-fn subtract(x: Number, y: Number) -> Reckoned
+#[tactic(auto, unfolding(crate::specs::Reckonings::reckoning, crate::specs::Reckonings::operated, paper::specs::Numbers::negated))]
+fn subtract(x: Number, y: Number) -> Result<Number, Refusal>
     requires { (x.size ≤ number_most) × (y.size ≤ number_most) }
-    ensures { reckoned_gives result ≡ reckoning Subtract (whole x) (whole y) }
+    ensures { told_by whole result ≡ reckoning Subtract (whole x) (whole y) }
 {
     ranged(plus(x, negated(y)))
 }
 
 // "`*n` divides the product by ten to the n, truncated toward zero; the undivided product must be in range"
-fn multiply(n: u64, x: Number, y: Number) -> Reckoned
+fn multiply(n: u64, x: Number, y: Number) -> Result<Number, Refusal>
     requires { (n ≤ number_digits) × (x.size ≤ number_most) × (y.size ≤ number_most) }
-    ensures { reckoned_gives result ≡ reckoning (Multiply n) (whole x) (whole y) }
+    ensures { told_by whole result ≡ reckoning (Multiply n) (whole x) (whole y) }
 {
     if passes(x.size, y.size) {
-        return Reckoned::Refused(paper::refusal::OUT_OF_RANGE);
+        return Err(Refusal::OutOfRange);
     }
-    let product = Number::signed(differ(x.negative, y.negative), x.size * y.size);
-    let scale = Number {
-        negative: false,
-        size: writing::power(n as usize),
-    };
+    let product = Number::signed(x.negative != y.negative, x.size * y.size);
+    let scale = Number::signed(false, writing::power(n as usize));
     ranged(quotient(product, scale))
 }
 
 // "`/` is second by top"; "Range comes before 11."
-fn divide(x: Number, y: Number) -> Reckoned
+#[tactic(auto, unfolding(crate::specs::Reckonings::reckoning, crate::specs::Reckonings::operated))]
+fn divide(x: Number, y: Number) -> Result<Number, Refusal>
     requires { (x.size ≤ number_most) × (y.size ≤ number_most) }
-    ensures { reckoned_gives result ≡ reckoning Divide (whole x) (whole y) }
+    ensures { told_by whole result ≡ reckoning Divide (whole x) (whole y) }
 {
     if y.size == 0 {
-        return Reckoned::Refused(paper::refusal::ZERO_DIVISOR);
+        return Err(Refusal::ZeroDivisor);
     }
     ranged(quotient(x, y))
 }
 
-fn rest(x: Number, y: Number) -> Reckoned
+#[tactic(auto, unfolding(crate::specs::Reckonings::reckoning, crate::specs::Reckonings::operated))]
+fn rest(x: Number, y: Number) -> Result<Number, Refusal>
     requires { (x.size ≤ number_most) × (y.size ≤ number_most) }
-    ensures { reckoned_gives result ≡ reckoning Rest (whole x) (whole y) }
+    ensures { told_by whole result ≡ reckoning Rest (whole x) (whole y) }
 {
     if y.size == 0 {
-        return Reckoned::Refused(paper::refusal::ZERO_DIVISOR);
+        return Err(Refusal::ZeroDivisor);
     }
     ranged(remainder(x, y))
 }
 
 // Both entries as numbers, and what they give. "Range comes before 11."
-pub(crate) fn calculate(op: Arithmetic, second: &[u8], top: &[u8]) -> Reckoned
+#[tactic(auto, unfolding(crate::specs::Reckonings::calculation), using(crate::proofs::ReckoningLaws::number_small))]
+pub(crate) fn calculate(op: Arithmetic, second: &[u8], top: &[u8]) -> Result<Number, Refusal>
     requires { scales op ≤ number_digits }
-    ensures { reckoned_gives result ≡ calculation op second.now top.now }
+    ensures { told_by whole result ≡ calculation op second.now top.now }
 {
-    let left = operand(second);
-    let Reckoned::Number(x) = left else {
-        return left;
-    };
-    let right = operand(top);
-    let Reckoned::Number(y) = right else {
-        return right;
-    };
+    let x = operand(second)?;
+    let y = operand(top)?;
     reckon(op, x, y)
 }
 
 // what two numbers in range give
-fn reckon(op: Arithmetic, x: Number, y: Number) -> Reckoned
+fn reckon(op: Arithmetic, x: Number, y: Number) -> Result<Number, Refusal>
     requires op_bound { scales op ≤ number_digits }
     requires size_le_number_most { (x.size ≤ number_most) × (y.size ≤ number_most) }
-    ensures { reckoned_gives result ≡ reckoning op (whole x) (whole y) }
+    ensures { told_by whole result ≡ reckoning op (whole x) (whole y) }
 {
     match op {
         Arithmetic::Multiply(n) => multiply(n, x, y),

@@ -10,6 +10,7 @@ use paper::Limit;
 // The digits of the largest number in range.
 const DIGITS: usize = Limit::DIGITS.most;
 
+// Document 01's form: a constant table.
 const POWERS: [u64; DIGITS + 1] = [
     1,
     10,
@@ -43,30 +44,24 @@ pub fn digits(n: u64, k: usize, out: &mut [u8], at: usize)
     ensures { out.new ≡ take at out.old ++ digits k n ++ drop (at + k) out.old }
 {
     let mut rest = n;
-    let mut i = k;
-    while 0 < i {
-        i -= 1;
+    // An index is kept here: of what is written through `iter_mut` a proof knows the length alone.
+    for i in (0..k).rev() {
         out[at + i] = b'0' + (rest % 10) as u8;
-        rest = rest / 10;
+        rest /= 10;
     }
 }
 
 // how many digits n has without leading zeros, one at least
+#[tactic(auto, using(crate::proofs::WritingLaws::widened))]
 fn width(n: u64) -> usize
     requires { n ≤ number_most }
     ensures { decimal n ≡ digits result n }
 {
-    let mut k = 1;
-    while k < DIGITS {
-        if n < power(k) {
-            return k;
-        }
-        k += 1;
-    }
-    k
+    (1..DIGITS).find(|&k| n < power(k)).unwrap_or(DIGITS)
 }
 
 // the decimal text of a size, at a place
+#[tactic(auto, using(crate::proofs::WritingLaws::placed))]
 pub fn decimal(n: u64, out: &mut [u8], at: usize) -> usize
     requires { (n ≤ number_most) × (at + number_digits ≤ length out.old) }
     ensures value { result ≡ length (decimal n) }

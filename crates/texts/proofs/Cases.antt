@@ -6,6 +6,9 @@ use Prim.Native.Nat.{ℕ, ◌<◌}
 use lib.Bits.{bit_and, bit_or}
 use lib.Dec.{eqb}
 use borrow.Author.Tests.{eqb-true}
+use native.Mathlib.Omega.{arith}
+use Rattle.std.specs.Char.{to_ascii_uppercase, to_ascii_lowercase}
+use Rattle.std.proofs.lemmas.Bool.Decides.{nat_tests}
 use Rattle.paper.specs.Bytes.{is_letter, is_upper, is_lower}
 use Rattle.paper.specs.Texts.{raised, lowered}
 use Rattle.paper.proofs.Truths.{both, below, passed}
@@ -28,9 +31,24 @@ module _ (b : ℕ) (byte : b < 256) where
       same : (x y : ℕ) → (eqb x (lowered b) && eqb y (raised b)) ≡ true → (x ≡ lowered b) × (y ≡ raised b)
       same x y e = let (l, r) = both (eqb x (lowered b)) (eqb y (raised b)) e in (eqb-true x (lowered b) l, eqb-true y (raised b) r)
 
-  pub letter_cases : is_letter b ≡ true → (bit_or b 32 ≡ lowered b) × (bit_and b 223 ≡ raised b)
-  letter_cases t = cases.0 t
+  pub bit_set : is_letter b ≡ true → bit_or b 32 ≡ lowered b
+  bit_set t = (cases.0 t).0
+
+  pub bit_clear : is_letter b ≡ true → bit_and b 223 ≡ raised b
+  bit_clear t = (cases.0 t).1
 
   pub other_case : (after_letter : Bool) → is_letter b ≡ false → b ≡ if after_letter then lowered b else raised b
   other_case true t = (cases.1 t).0
   other_case false t = (cases.1 t).1
+
+-- std's change of case is the definitions'
+pub uppercased : (b : ℕ) → to_ascii_uppercase b ≡ raised b
+unfolding raised is_lower
+uppercased b = grind (arith, nat_tests)
+
+pub lowercased : (b : ℕ) → to_ascii_lowercase b ≡ lowered b
+unfolding lowered is_upper
+lowercased b = grind (arith, nat_tests)
+
+-- the cases of a letter by its bit, and of any other byte
+pub ruleset letter_bits = (bit_set, bit_clear, other_case)

@@ -149,3 +149,6 @@ after_fits x (suc n) e = omega (arith, length-drop (suc (field_end x n e)) e)
 
 pub group_fits : (k x n : ℕ) (e : Bytes) → length (first_fields x n (fields_after x k e)) ≤ length e
 group_fits k x n e = omega (arith, first_fits x n (fields_after x k e), after_fits x k e)
+
+-- what follows the fields to skip
+pub ruleset skipping = (skips_some, field_end_fits)

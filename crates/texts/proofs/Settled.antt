@@ -1,6 +1,11 @@
 -- Any two outcomes that a contract of this crate allows are equal: the answer, and what the lent output holds afterwards.
 use mathlib.Core.Path.{◌≡◌, sym, ◌∙◌}
 use contract.Lifetimes.{Lfts}
+use Rattle.std.specs.Prelude.{Result}
+use Rattle.paper.specs.declared.Refusal.{Refusal}
+use Rattle.paper.specs.Refusals.{Res}
+use Rattle.paper.specs.Answers.{told}
+use Rattle.paper.proofs.Telling.{told_same}
 use Rattle.texts.proofs.recase.Reads as recase
 use Rattle.texts.proofs.keep.Reads as keep
 use Rattle.texts.proofs.extract.Reads as extract
@@ -9,8 +14,6 @@ use Rattle.texts.proofs.admit.Reads as admit
 use Rattle.texts.proofs.group.Reads as group
 use Rattle.texts.proofs.hex.Reads as hex
 use Rattle.texts.proofs.unhex.Reads as unhex
-use Rattle.texts.proofs.letter.is_upper.Reads as is_upper
-use Rattle.texts.proofs.letter.is_lower.Reads as is_lower
 use Rattle.texts.proofs.letter.is_letter.Reads as is_letter
 use Rattle.texts.proofs.letter.is_digit.Reads as is_digit
 use Rattle.texts.proofs.letter.raise.Reads as raise
@@ -20,7 +23,6 @@ use Rattle.texts.proofs.hexit.digit.Reads as digit
 use Rattle.texts.proofs.hexit.is_other.Reads as is_other
 use Rattle.texts.proofs.hexit.value.Reads as value
 use Rattle.texts.proofs.hexit.byte.Reads as byte
-use Rattle.texts.proofs.part.front.Reads as front
 use Rattle.texts.proofs.part.after.Reads as after
 use Rattle.texts.proofs.part.skip_fields.Reads as skip_fields
 use Rattle.texts.proofs.part.take_fields.Reads as take_fields
@@ -30,8 +32,8 @@ use Rattle.texts.proofs.part.admitted.Reads as admitted
 abbrev Settled : {A R E : Type 0} → (A → R → E → Type 0) → Type 0
 Settled {A} {R} {E} post = (a : A) (r r' : R) (e e' : E) → post a r e → post a r' e' → r ≡ r'
 
-same : {A B : Type 0} {r r' s : A} {o o' t : B} → (r ≡ s) × (o ≡ t) → (r' ≡ s) × (o' ≡ t) → (r ≡ r') × (o ≡ o')
-same p q = (p.0 ∙ sym q.0, p.1 ∙ sym q.1)
+same : {A B : Type 0} {r r' : Result A Refusal} {s : Res A} {o o' t : B} → (told r ≡ s) × (o ≡ t) → (told r' ≡ s) × (o' ≡ t) → (r ≡ r') × (o ≡ o')
+same p q = (told_same _ _ (p.0 ∙ sym q.0), p.1 ∙ sym q.1)
 
 recase_settled : (κs : Lfts 2) (a : _) (r r' : _) (e e' : _) → recase.Post κs a r e → recase.Post κs a r' e' → (r ≡ r') × (e.1.1.0.now ≡ e'.1.1.0.now)
 recase_settled κs a r r' e e' p q = same p q
@@ -61,12 +63,6 @@ unhex_settled : (κs : Lfts 2) (a : _) (r r' : _) (e e' : _) → unhex.Post κs 
 unhex_settled κs a r r' e e' p q = same p q
 
 -- an answer on one byte: `is_letter` and `is_digit` for whoever asks, the others within the crate
-is_upper_settled : (κs : Lfts 0) → Settled (is_upper.Post κs)
-is_upper_settled κs a r r' e e' p q = p ∙ sym q
-
-is_lower_settled : (κs : Lfts 0) → Settled (is_lower.Post κs)
-is_lower_settled κs a r r' e e' p q = p ∙ sym q
-
 is_letter_settled : (κs : Lfts 0) → Settled (is_letter.Post κs)
 is_letter_settled κs a r r' e e' p q = p ∙ sym q
 
@@ -95,9 +91,6 @@ byte_settled : (κs : Lfts 0) → Settled (byte.Post κs)
 byte_settled κs a r r' e e' p q = p ∙ sym q
 
 -- within the crate: a part of the element, by its bytes
-front_settled : (κs : Lfts 1) → (a : _) (r r' : _) (e e' : _) → front.Post κs a r e → front.Post κs a r' e' → r.now ≡ r'.now
-front_settled κs a r r' e e' p q = p ∙ sym q
-
 after_settled : (κs : Lfts 1) → (a : _) (r r' : _) (e e' : _) → after.Post κs a r e → after.Post κs a r' e' → r.now ≡ r'.now
 after_settled κs a r r' e e' p q = p ∙ sym q
 

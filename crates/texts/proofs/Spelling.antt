@@ -1,15 +1,17 @@
 -- MX and MY: their scans, a byte or a pair of hex digits a turn, and that MY gives back what MX made.
 use Rattle.std.specs.Prelude.{if◌then◌else◌}
-use mathlib.Core.Path.{◌≡◌, refl, ap, ◌∙◌}
+use mathlib.Core.Path.{◌≡◌, refl, sym, ap, ◌∙◌}
 use mathlib.Core.Bool.{Bool, true, false, not, ◌||◌}
-use mathlib.Core.List.{[], ◌∷◌}
+use mathlib.Core.List.{[], ◌∷◌, ◌++◌}
 use mathlib.Core.Option.{Option, none, some}
 use Prim.Native.Nat.{ℕ, suc, ◌+◌, ◌-◌, ◌*◌, ◌/◌, ◌%◌, ◌≤◌, ◌<◌}
 use native.Mathlib.Nat.{le_refl}
 use native.Mathlib.Omega.{arith}
 use lib.Dec.{ltb}
 use lib.ListN.{length, drop, get_or, length-drop, drop_of_length-le}
-use borrow.Author.Tests.{ltb-true, ltb-false}
+use lib.Seq.{drop-drop}
+use borrow.Author.Tests.{lt-ltb, le-ltb, ltb-true, ltb-false}
+use Rattle.std.specs.Char.{is_ascii_hexdigit}
 use Rattle.paper.specs.Bytes.{Bytes, is_digit, any, within}
 use Rattle.paper.specs.Sizes.{is_mark, entry_most}
 use Rattle.paper.specs.Refusals.{given, refused, not_convertible, mark_from_hex}
@@ -39,15 +41,27 @@ hexed_length (b ∷ bs) = omega (arith, hexed_length bs)
 
 -- ---- one hex digit
 
+pub digit_below : (n : ℕ) → n < 10 → 48 + n ≡ hex_digit n
+unfolding hex_digit
+digit_below n h = rw (lt-ltb n 10 h)
+
+pub letter_above : (n : ℕ) → 10 ≤ n → 65 + (n - 10) ≡ hex_digit n
+unfolding hex_digit
+letter_above n h = rw (le-ltb n 10 h)
+
 -- the three ranges of a hex digit
 abbrev by_range : ℕ → Bool → Bool → Bool → Option ℕ
 by_range b t u w = if t then some (b - 48) else (if u then some (b - 65 + 10) else (if w then some (b - 97 + 10) else none))
 
-pub is_other_of : (b : ℕ) (t u w : Bool) → not (t || u || w) ≡ is_none (by_range b t u w)
+is_other_of : (b : ℕ) (t u w : Bool) → not ((t || u) || w) ≡ is_none (by_range b t u w)
 is_other_of b true u w = refl
 is_other_of b false true w = refl
 is_other_of b false false true = refl
 is_other_of b false false false = refl
+
+pub not_hexdigit : (b : ℕ) → not (is_ascii_hexdigit b) ≡ is_other b
+unfolding is_other hex_value is_digit
+not_hexdigit b = is_other_of b (within 48 57 b) (within 65 70 b) (within 97 102 b)
 
 -- what a hex digit stands for, by its own bits
 halves : (b high letter v : ℕ) → b % 16 ≡ b - high * 16 → b / 64 ≡ letter → v ≡ (b - high * 16 + letter * 9) % 16 → some v ≡ some (worth b)
@@ -66,15 +80,21 @@ digit_worth b e = go (within 48 57 b) refl (within 65 70 b) refl (within 97 102 
 
 -- ---- MY
 
--- the bytes at i and i + 1, and what follows them
-next_pair : (e : Bytes) (i : ℕ) → i + 1 < length e → drop i e ≡ get_or e i 0 ∷ get_or e (i + 1) 0 ∷ drop (i + 2) e
-next_pair e i h =
-    let two : i + 1 + 1 ≡ i + 2 = omega arith in
-    next e i (omega arith) ∙ ap (λ (r : Bytes). get_or e i 0 ∷ r) (rw two at (next e (i + 1) h))
-
-pub decoded_next : (e : Bytes) (i : ℕ) → i + 1 < length e → decoded (drop i e) ≡ (worth (get_or e i 0) * 16 + worth (get_or e (i + 1) 0)) ∷ decoded (drop (i + 2) e)
+-- a pair off the front of what is left after k of them
+pub pair_off : (e : Bytes) (k : ℕ) (two rest : Bytes) → 2 * k ≤ length e → drop (2 * k) e ≡ two ++ rest → length two ≡ 2
+    → (2 * (k + 1) ≤ length e) × (rest ≡ drop (2 * (k + 1)) e)
+    × (decoded (drop (2 * k) e) ≡ (worth (get_or two 0 0) * 16 + worth (get_or two 1 0)) ∷ decoded (drop (2 * (k + 1)) e))
 unfolding decoded
-decoded_next e i h = rw (next_pair e i h)
+pair_off e k [] rest inside d n = absurd (omega arith)
+pair_off e k (h ∷ []) rest inside d n = absurd (omega arith)
+pair_off e k (h ∷ l ∷ []) rest inside d n =
+    let two : 2 * k + 2 ≡ 2 * (k + 1) = omega arith in
+    let left : rest ≡ drop (2 * (k + 1)) e = ap (drop 2) (sym d) ∙ drop-drop 2 (2 * k) e ∙ ap (λ (n : ℕ). drop n e) two in (
+      omega (arith, ap length d, length-drop (2 * k) e),
+      left,
+      ap decoded d ∙ ap (λ (r : Bytes). (worth h * 16 + worth l) ∷ decoded r) left,
+    )
+pair_off e k (h ∷ l ∷ x ∷ xs) rest inside d n = absurd (omega arith)
 
 short_decoded : (e : Bytes) → length e ≤ 1 → decoded e ≡ []
 unfolding decoded

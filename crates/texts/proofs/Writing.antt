@@ -11,7 +11,7 @@ use Rattle.paper.specs.Sizes.{entry_most}
 use Rattle.paper.specs.Refusals.{Res, given}
 use Rattle.paper.specs.Answers.{written}
 use Rattle.paper.specs.Steps.{limited}
-use Rattle.paper.specs.declared.Given.TheVariants.{Length}
+use Rattle.std.specs.Prelude.{Ok}
 use Rattle.paper.proofs.Limits.{limited_within, Answered, gives_bytes}
 
 -- n bytes of `whole` stand in front of what `held` has from there on, and `rest` is still to be written
@@ -74,11 +74,11 @@ module _ (held whole : Bytes) {out : Bytes} {n : ℕ} (told : n ≡ length whole
   unfolding written
   in_front = omega (arith, ap length stand, length-append whole (drop (length whole) held))
 
-  pub front : take (n - 0) out ≡ whole
+  pub front : take n out ≡ whole
   unfolding written
-  front = rw stand (take_at whole (drop (length whole) held) (n - 0) (omega arith))
+  front = rw stand (take_at whole (drop (length whole) held) n (sym told))
 
 -- all written within the limit on a result
 pub answered : {held out : Bytes} {n : ℕ} {whole : Bytes} {r : Res Bytes} → Progress held out n [] whole → length whole ≤ entry_most → r ≡ given whole
-    → Answered (limited entry_most r) held out (Length n)
+    → Answered (limited entry_most r) held out (Ok n)
 answered {held} {whole = whole} p fits e = gives_bytes held whole (limited_within entry_most e fits) (counted p) (stands p)

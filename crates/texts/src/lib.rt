@@ -1,5 +1,5 @@
 // What the codes that cut, keep or spell bytes give on one element: G, T, L, MC, MX and MY.
-// Each call writes its answer in front of the lent output, or refuses and leaves the output as it was.
+// Each call writes its answer in front of the lent output, or refuses and leaves the output as it was: no heap, so the buffer comes along.
 // The contracts cite document 01 through `outcome`: what the code gives, within the limit on a step's result.
 #![tactic(auto)]
 
@@ -7,19 +7,19 @@ ghost use Rattle.std.specs.Prelude.{◌≡◌, ◌≤◌, length};
 ghost use Rattle.paper.specs.Bytes.{any};
 ghost use Rattle.paper.specs.Sizes.{entry_most};
 ghost use Rattle.paper.specs.Refusals.{given};
-ghost use Rattle.paper.specs.Answers.{given_of, written};
+ghost use Rattle.paper.specs.Answers.{told, sized, written};
 ghost use Rattle.paper.specs.Codes.{Plain};
 ghost use Rattle.paper.specs.Steps.{limited};
 ghost use Rattle.texts.specs.Codes.{outcome, kept_code, kept, cased_code, turned};
 ghost use Rattle.texts.specs.Scans.{is_other, decoded};
 
-use paper::{Given, Limit, refusal};
+use paper::{Limit, Refusal};
 
 mod hexit;
 pub mod letter;
 mod part;
 
-// What MCA, MC/A, MCN and MC/N keep (001, 4.8).
+// What MCA, MC/A, MCN and MC/N keep (001, 4.8). An enum and no closure: the contracts name the code by it.
 #[derive(Clone, Copy)]
 pub enum Class {
     Letters,
@@ -28,7 +28,7 @@ pub enum Class {
     OtherThanNumerals,
 }
 
-// How MCU, MCL and MCT write letters (001, 4.8).
+// How MCU, MCL and MCT write letters (001, 4.8). An enum for the same reason.
 #[derive(Clone, Copy)]
 pub enum Casing {
     Upper,
@@ -37,6 +37,7 @@ pub enum Casing {
 }
 
 // Whether a code of this class keeps the byte.
+#[tactic(auto, unfolding(crate::specs::Codes::kept))]
 fn keeps(class: Class, b: u8) -> bool
     ensures { result ≡ kept class b }
 {
@@ -49,6 +50,7 @@ fn keeps(class: Class, b: u8) -> bool
 }
 
 // One byte in the case asked for. The cases of a letter differ in the bit 32: set and cleared so, MCT is compiled to SIMD.
+#[tactic(auto, unfolding(crate::specs::Codes::turned), using(crate::proofs::Cases::letter_bits))]
 fn turn(case: Casing, after_letter: bool, b: u8) -> u8
     ensures { result ≡ turned case after_letter b }
 {
@@ -66,83 +68,84 @@ fn turn(case: Casing, after_letter: bool, b: u8) -> u8
 }
 
 // MCU, MCL and MCT.
-pub fn recase(e: &[u8], case: Casing, out: &mut [u8]) -> Given
+pub fn recase(e: &[u8], case: Casing, out: &mut [u8]) -> Result<usize, Refusal>
     requires { (length e.now ≤ entry_most) × (entry_most ≤ length out.old) }
-    ensures value { result ≡ given_of (outcome (cased_code case) e.now) }
+    ensures value { told result ≡ sized (outcome (cased_code case) e.now) }
     ensures out_after { out.new ≡ written out.old (outcome (cased_code case) e.now) }
 {
     let mut after_letter = false;
-    let mut i = 0;
-    while i < e.len() {
-        let b = e[i];
+    // An index is kept here: of what is written through `iter_mut` a proof knows the length alone.
+    for (i, &b) in e.iter().enumerate() {
         out[i] = turn(case, after_letter, b);
         after_letter = letter::is_letter(b);
-        i += 1;
     }
-    Given::Length(i)
+    Ok(e.len())
 }
 
 // MCA, MC/A, MCN and MC/N.
-pub fn keep(e: &[u8], class: Class, out: &mut [u8]) -> Given
+pub fn keep(e: &[u8], class: Class, out: &mut [u8]) -> Result<usize, Refusal>
     requires { (length e.now ≤ entry_most) × (entry_most ≤ length out.old) }
-    ensures value { result ≡ given_of (outcome (kept_code class) e.now) }
+    ensures value { told result ≡ sized (outcome (kept_code class) e.now) }
     ensures out_after { out.new ≡ written out.old (outcome (kept_code class) e.now) }
 {
-    let mut i = 0;
-    let mut n = 0;
-    while i < e.len() {
-        let b = e[i];
+    let mut n = 0; // how far the output has come, which is no index of the element
+    for &b in e {
         if keeps(class, b) {
             out[n] = b;
             n += 1;
         }
-        i += 1;
     }
-    Given::Length(n)
+    Ok(n)
 }
 
 // A part of the element as the answer.
-fn give(part: &[u8], out: &mut [u8]) -> Given
+fn give(part: &[u8], out: &mut [u8]) -> Result<usize, Refusal>
     requires { (length part.now ≤ entry_most) × (entry_most ≤ length out.old) }
-    ensures value { result ≡ given_of (limited entry_most (given part.now)) }
+    ensures value { told result ≡ sized (limited entry_most (given part.now)) }
     ensures out_after { out.new ≡ written out.old (limited entry_most (given part.now)) }
 {
     lent::copy_in(part, out, 0);
-    Given::Length(part.len())
+    Ok(part.len())
 }
 
 // T: "`Tm,n` n bytes from byte m on, fewer if the element ends".
-pub fn extract(e: &[u8], start: u64, count: u64, out: &mut [u8]) -> Given
+pub fn extract(e: &[u8], start: u64, count: u64, out: &mut [u8]) -> Result<usize, Refusal>
     requires { (length e.now ≤ entry_most) × (entry_most ≤ length out.old) }
-    ensures value { result ≡ given_of (outcome (Plain.extract start count) e.now) }
+    ensures value { told result ≡ sized (outcome (Plain.extract start count) e.now) }
     ensures out_after { out.new ≡ written out.old (outcome (Plain.extract start count) e.now) }
 {
     let rest = part::after(e, part::index(start));
-    give(part::front(rest, count), out)
+    give(lent::front(rest, count as usize), out)
 }
 
 // `L`: "alone gives the length".
-pub fn measure(e: &[u8], out: &mut [u8]) -> Given
+pub fn measure(e: &[u8], out: &mut [u8]) -> Result<usize, Refusal>
     requires { (length e.now ≤ entry_most) × (entry_most ≤ length out.old) }
-    ensures value { result ≡ given_of (outcome Plain.measure e.now) }
+    ensures value { told result ≡ sized (outcome Plain.measure e.now) }
     ensures out_after { out.new ≡ written out.old (outcome Plain.measure e.now) }
 {
-    Given::Length(numbers::writing::decimal(e.len() as u64, out, 0))
+    Ok(numbers::writing::decimal(e.len() as u64, out, 0))
 }
 
 // `Ln` and `Ln,m`: "the element or empty".
-pub fn admit(e: &[u8], least: u64, most: u64, out: &mut [u8]) -> Given
+pub fn admit(e: &[u8], least: u64, most: u64, out: &mut [u8]) -> Result<usize, Refusal>
     requires { (length e.now ≤ entry_most) × (entry_most ≤ length out.old) }
-    ensures value { result ≡ given_of (outcome (Plain.admit least most) e.now) }
+    ensures value { told result ≡ sized (outcome (Plain.admit least most) e.now) }
     ensures out_after { out.new ≡ written out.old (outcome (Plain.admit least most) e.now) }
 {
     give(part::admitted(e, least, most), out)
 }
 
 // G: "skips fields, then takes up to the number asked, separators between them kept".
-pub fn group(e: &[u8], skip: u64, separator: u8, take: u64, out: &mut [u8]) -> Given
+pub fn group(
+    e: &[u8],
+    skip: u64,
+    separator: u8,
+    take: u64,
+    out: &mut [u8],
+) -> Result<usize, Refusal>
     requires { (length e.now ≤ entry_most) × (entry_most ≤ length out.old) }
-    ensures value { result ≡ given_of (outcome (Plain.group skip separator take) e.now) }
+    ensures value { told result ≡ sized (outcome (Plain.group skip separator take) e.now) }
     ensures out_after { out.new ≡ written out.old (outcome (Plain.group skip separator take) e.now) }
 {
     let rest = part::skip_fields(e, separator, skip);
@@ -150,35 +153,31 @@ pub fn group(e: &[u8], skip: u64, separator: u8, take: u64, out: &mut [u8]) -> G
 }
 
 // MX: the length is tested first, so that a refusal leaves the output as it was.
-pub fn hex(e: &[u8], out: &mut [u8]) -> Given
+pub fn hex(e: &[u8], out: &mut [u8]) -> Result<usize, Refusal>
     requires { (length e.now ≤ entry_most) × (entry_most ≤ length out.old) }
-    ensures value { result ≡ given_of (outcome Plain.hex e.now) }
+    ensures value { told result ≡ sized (outcome Plain.hex e.now) }
     ensures out_after { out.new ≡ written out.old (outcome Plain.hex e.now) }
 {
     if Limit::ENTRY.most < 2 * e.len() {
-        return Given::Refused(refusal::OVER_LONG_ENTRY);
+        return Err(Refusal::OverLongEntry);
     }
-    let mut i = 0;
-    let mut n = 0;
-    while i < e.len() {
-        let b = e[i];
-        out[n] = hexit::digit(b / 16);
-        out[n + 1] = hexit::digit(b % 16);
-        n += 2;
-        i += 1;
+    // By index, as in `recase`.
+    for (i, &b) in e.iter().enumerate() {
+        out[2 * i] = hexit::digit(b / 16);
+        out[2 * i + 1] = hexit::digit(b % 16);
     }
-    Given::Length(n)
+    Ok(2 * e.len())
 }
 
 // Whether a byte is there that is no hex digit. No early exit and no branch, so that it is compiled to SIMD.
+// A `bool` collects the tests by `|`, and is compiled so as it stands; `lent` sets a flag under an `if`, which wants one as wide as a byte.
+#[tactic(auto, using(lent::proofs::Scans::any_next, lent::proofs::Scans::any_all))]
 fn has_other(e: &[u8]) -> bool
     ensures { result ≡ any is_other e.now }
 {
     let mut found = false;
-    let mut i = 0;
-    while i < e.len() {
-        found = found | hexit::is_other(e[i]);
-        i += 1;
+    for &b in e {
+        found |= hexit::is_other(b);
     }
     found
 }
@@ -189,33 +188,29 @@ fn decode(e: &[u8], out: &mut [u8]) -> usize
     ensures value { result ≡ length (decoded e.now) }
     ensures out_after { out.new ≡ written out.old (given (decoded e.now)) }
 {
-    let mut i = 0;
-    let mut n = 0;
-    while i + 1 < e.len() {
-        out[n] = hexit::byte(e[i], e[i + 1]);
-        n += 1;
-        i += 2;
+    for (i, pair) in e.chunks_exact(2).enumerate() {
+        out[i] = hexit::byte(pair[0], pair[1]);
     }
-    n
+    e.len() / 2
 }
 
 // MY: 12 anywhere, before 13. The bytes are spelled beside the output, so that a refusal leaves the output as it was.
-pub fn unhex(e: &[u8], out: &mut [u8]) -> Given
+pub fn unhex(e: &[u8], out: &mut [u8]) -> Result<usize, Refusal>
     requires { (length e.now ≤ entry_most) × (entry_most ≤ length out.old) }
-    ensures value { result ≡ given_of (outcome Plain.unhex e.now) }
+    ensures value { told result ≡ sized (outcome Plain.unhex e.now) }
     ensures out_after { out.new ≡ written out.old (outcome Plain.unhex e.now) }
 {
     if e.len() % 2 != 0 {
-        return Given::Refused(refusal::NOT_CONVERTIBLE);
+        return Err(Refusal::NotConvertible);
     }
     if has_other(e) {
-        return Given::Refused(refusal::NOT_CONVERTIBLE);
+        return Err(Refusal::NotConvertible);
     }
     let mut spelled = [0u8; Limit::ENTRY.most];
     let n = decode(e, &mut spelled);
-    let part = &spelled[0..n];
+    let part = &spelled[..n];
     if lent::marked(part) {
-        return Given::Refused(refusal::MARK_FROM_HEX);
+        return Err(Refusal::MarkFromHex);
     }
     give(part, out)
 }

@@ -1,5 +1,5 @@
 // Parts of an element: what stands in front of a place or behind it, and its fields.
-ghost use Rattle.std.specs.Prelude.{◌≡◌, pred, [], length, take, drop, if◌then◌else◌};
+ghost use Rattle.std.specs.Prelude.{◌≡◌, pred, [], length, drop, if◌then◌else◌};
 ghost use Rattle.paper.specs.Bytes.{within};
 ghost use Rattle.texts.specs.Scans.{field_end, fields_after, first_fields};
 
@@ -7,51 +7,35 @@ ghost use Rattle.texts.specs.Scans.{field_end, fields_after, first_fields};
 pub(crate) fn index(start: u64) -> u64
     ensures { result ≡ pred start }
 {
-    if start == 0 { 0 } else { start - 1 }
-}
-
-// The first `count` bytes, fewer if the element ends.
-pub(crate) fn front(e: &[u8], count: u64) -> &[u8]
-    ensures { result.now ≡ take count e.now }
-{
-    if e.len() as u64 <= count {
-        return e;
-    }
-    let n = count as usize;
-    &e[0..n]
+    start.saturating_sub(1)
 }
 
 // What follows the first `skip` bytes.
 pub(crate) fn after(e: &[u8], skip: u64) -> &[u8]
     ensures { result.now ≡ drop skip e.now }
 {
-    let end = e.len();
-    if end as u64 <= skip {
-        return &e[end..];
-    }
-    let n = skip as usize;
-    &e[n..]
+    &e[e.len().min(skip as usize)..]
 }
 
 // Where the field ends that has `fields` others before it.
 fn end_of_field(e: &[u8], separator: u8, fields: u64) -> usize
     ensures { result ≡ field_end separator fields e.now }
 {
+    // A loop that counts the separators down: `enumerate`, `filter` and `nth` in its place need a proof that the n-th kept item ends the field.
     let mut left = fields;
-    let mut i = 0;
-    while i < e.len() {
-        if e[i] == separator {
+    for (i, &b) in e.iter().enumerate() {
+        if b == separator {
             if left == 0 {
                 return i;
             }
             left -= 1;
         }
-        i += 1;
     }
-    i
+    e.len()
 }
 
 // What follows `skip` fields and their separators.
+#[tactic(auto, unfolding(crate::specs::Scans::fields_after), using(crate::proofs::Fields::skipping))]
 pub(crate) fn skip_fields(e: &[u8], separator: u8, skip: u64) -> &[u8]
     ensures { result.now ≡ fields_after separator skip e.now }
 {
@@ -63,14 +47,14 @@ pub(crate) fn skip_fields(e: &[u8], separator: u8, skip: u64) -> &[u8]
 }
 
 // The first `count` fields with the separators between them.
+#[tactic(auto, unfolding(crate::specs::Scans::first_fields), using(crate::proofs::Fields::takes_some))]
 pub(crate) fn take_fields(e: &[u8], separator: u8, count: u64) -> &[u8]
     ensures { result.now ≡ first_fields separator count e.now }
 {
     if count == 0 {
-        return front(e, 0);
+        return &[];
     }
-    let end = end_of_field(e, separator, count - 1) as u64;
-    front(e, end)
+    lent::front(e, end_of_field(e, separator, count - 1))
 }
 
 // The element if its length is asked for, else nothing.
@@ -78,11 +62,5 @@ pub(crate) fn admitted(e: &[u8], least: u64, most: u64) -> &[u8]
     ensures { result.now ≡ if within least most (length e.now) then e.now else [] }
 {
     let n = e.len() as u64;
-    if n < least {
-        return front(e, 0);
-    }
-    if most < n {
-        return front(e, 0);
-    }
-    e
+    if (least <= n) & (n <= most) { e } else { &[] }
 }

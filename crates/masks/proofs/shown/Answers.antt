@@ -21,4 +21,4 @@ laid_out-requires c =
 pub returns : goal.returns
 returns c =
     let a = c.args in
-    same_answer a.out.now (ap (laid_out a.mask.left (fill_of a.mask.filled)) (laid_read (omega arith) c.masked_text-at.ensures)) c.laid_out.ensures
+    same_answer a.out.now c.laid_out.result (ap (laid_out a.mask.left (fill_of a.mask.filled)) (laid_read (omega arith) c.masked_text-at.ensures)) c.laid_out.ensures

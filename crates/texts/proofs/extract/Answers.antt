@@ -7,13 +7,6 @@ use Rattle.paper.specs.Texts.{plain_gives}
 use Rattle.texts.proofs.Laws.{part_fits}
 use Rattle.texts.proofs.extract.Goals as goal
 
-pub give-requires : goal.give-requires
-unfolding plain_gives
-give-requires c =
-    let a = c.args in
-    let l = ap length (c.front.ensures ∙ ap (take a.count) c.after-rest.ensures) in
-    (omega (arith, l, part_fits a.count c.index.result a.e.now), search rules)
-
 pub returns : goal.returns
 unfolding plain_gives
 returns c = rw (c.front.ensures, c.after-rest.ensures, c.index.ensures) at c.give.ensures

@@ -1,24 +1,26 @@
 -- `printing::give` gives what the definition does, refusals included.
-use mathlib.Core.Path.{refl}
+use mathlib.Core.Path.{refl, sym}
 use native.Mathlib.Omega.{arith}
+use borrow.Author.Tests.{eqb-true, eqb-false}
+use Rattle.std.proofs.lemmas.Result.{err_from_is_err_and}
 use Rattle.paper.specs.Sizes.{entry_most}
-use Rattle.paper.specs.Answers.{given_of, written}
-use Rattle.numbers.proofs.FormLaws.{a_number, passed_up}
-use Rattle.codes.specs.Meaning.{separator_of}
+use Rattle.paper.specs.Answers.{maybe, written}
 use Rattle.dates.proofs.PrintingLaws.{limited_empty, gives_by}
 use Rattle.dates.proofs.printing.give.Goals as goal
 
-pub returns-then-e-eq0 : goal.returns-then-e-eq0
-unfolding given_of written
-returns-then-e-eq0 c =
-    let a = c.args in rw (limited_empty a.n (separator_of a.separator) a.e.now c.if-e-eq0.true) (record { value = refl; out_after = refl })
-
-pub returns-in_default : goal.returns-in_default
-unfolding given_of written
-returns-in_default c =
+pub returns-then-is_empty : goal.returns-then-is_empty
+unfolding written
+returns-then-is_empty c =
     let a = c.args in
-    let number = passed_up c.convertible-element.ensures c.in_default.is c.refusal.ensures in
-    rw (gives_by a.n (separator_of a.separator) a.e.now c.requires.1 c.if-e-eq0.false number) (record { value = refl; out_after = refl })
+    rw (limited_empty a.n (maybe a.separator) a.e.now (eqb-true _ _ (sym c.if-is_empty.ensures))) (record { value = refl; out_after = refl })
+
+pub returns-in_err-convertible : goal.returns-in_err-convertible
+unfolding written
+returns-in_err-convertible c =
+    let a = c.args in
+    let p = err_from_is_err_and c.from_residual.result c.from_residual.ensures.1 in
+    rw (gives_by a.n (maybe a.separator) a.e.now c.requires.1 (eqb-false _ _ (sym c.if-is_empty.ensures)) (sym c.in_err-convertible.ensures), p.1, p.2)
+    (record { value = refl; out_after = refl })
 
 pub number_dated-requires : goal.number_dated-requires
 unfolding entry_most
@@ -27,5 +29,4 @@ number_dated-requires c = (omega arith, c.requires.1)
 pub returns : goal.returns
 returns c =
     let a = c.args in
-    let number = a_number c.convertible-element.ensures c.in-Number.is in
-    rw (gives_by a.n (separator_of a.separator) a.e.now c.requires.1 c.if-e-eq0.false number) c.number_dated.ensures
+    rw (gives_by a.n (maybe a.separator) a.e.now c.requires.1 (eqb-false _ _ (sym c.if-is_empty.ensures)) (sym c.in_ok-convertible.ensures)) c.number_dated.ensures

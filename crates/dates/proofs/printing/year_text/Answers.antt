@@ -8,11 +8,5 @@ use Rattle.dates.proofs.printing.year_text.Goals as goal
 pub returns-then-n-eq0 : goal.returns-then-n-eq0
 returns-then-n-eq0 c = year_none _ _ _ _ _ c.if-n-eq0.true
 
-pub digits-requires : goal.digits-requires
-digits-requires c = simp length-set (omega arith)
-
-pub shape_of-out : goal.shape_of-out
-shape_of-out c = c.digits.auto.out ∙ simp length-set
-
 pub returns : goal.returns
 returns c = year_laid _ _ _ _ _ _ c.requires.0 c.requires.1 c.if-n-eq0.false c.digits.ensures

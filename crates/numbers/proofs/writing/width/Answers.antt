@@ -1,24 +1,16 @@
--- `writing::width` meets its contract. The invariant: the size has at least k digits.
-use mathlib.Core.Path.{refl}
-use mathlib.Core.Logic.{inl, inr}
-use native.Mathlib.Omega.{arith}
-use Rattle.numbers.proofs.WritingLaws.{widened, one_more, all_digits}
+-- `writing::width` meets its contract: the first k whose power of ten is above the size; no size in range has more than 15 digits.
+use mathlib.Core.Path.{sym, ap, ◌∙◌}
+use Prim.Native.Nat.{ℕ, ◌^◌, ◌≤◌, ◌<◌}
+use borrow.Author.Rules.{rules}
+use borrow.Author.Tests.{tests}
+use Rattle.std.proofs.lemmas.Iterator.{first_from_Range}
+use Rattle.paper.specs.Numbers.{digits}
+use Rattle.numbers.proofs.WritingLaws.{width_found}
 use Rattle.numbers.proofs.writing.width.Goals as goal
-
-pub loop-k-init : goal.loop-k-init
-loop-k-init c = (omega arith, omega arith, inl refl)
-
-pub returns-then-n-power : goal.returns-then-n-power
-returns-then-n-power c =
-    let l = c.loop-k in
-    widened l.k c.args.n (omega arith) (omega arith) (omega arith) l.invariant.2
-
-pub loop-k-preserved : goal.loop-k-preserved
-loop-k-preserved c =
-    let l = c.loop-k in
-    (omega arith, omega arith, inr (one_more l.k c.args.n (omega arith)))
 
 pub returns : goal.returns
 returns c =
-    let l = c.loop-k in let n = c.args.n in
-    widened l.k n (omega arith) (omega arith) (all_digits l.k n (omega arith) c.requires) l.invariant.2
+    let n = c.args.n in
+    let f = first_from_Range _ _ _ c.find.result (λ k. n < 10 ^ k) (λ k. 10 ^ k ≤ n) c.find.ensures.ran (λ x q k. search (rules, tests))
+    (λ x q k. search (rules, tests)) in
+    width_found n c.find.result c.requires f ∙ ap (λ (k : ℕ). digits k n) (sym c.unwrap_or.ensures)
