@@ -23,31 +23,31 @@ use Rattle.readers.proofs.AgreementLines.{conversion_agrees}
 
 module _ {s : Bytes} {low : ℕ} where
   literal_elm_agrees : (q : ℕ) → Agrees (elm_of s) s low (place.literal_elm q) (paper.literal_elm q)
-  unfolding place.literal_elm paper.literal_elm elm_of operand_of
+  unfolding paper.literal_elm elm_of operand_of
   literal_elm_agrees q = literal_agrees (λ start len. Elm.Push (Operand.Literal start len)) (λ bs. codes.push (codes.Operand.literal bs)) q (λ start len. refl)
 
   repeats_agrees : Agrees repeat_of s low place.repeats paper.repeats
-  unfolding place.repeats paper.repeats repeat_of
+  unfolding paper.repeats repeat_of
   repeats_agrees = chooses tt (option (chooses tt (option (gives_agrees Repeat.FirstSubvalue) no_more) (gives_agrees Repeat.FirstValue)) no_more) (gives_agrees Repeat.Each)
 
   attribute_agrees : (n : ℕ) → Agrees (elm_of s) s low (place.attribute_elm n) (λ bs. paper.follow (paper.repeats bs) (λ r. paper.gives (codes.push (codes.attribute n r))))
-  unfolding place.attribute_elm elm_of operand_of
+  unfolding elm_of operand_of
   attribute_agrees n = follow_agrees _ _ repeats_agrees (λ r. gives_agrees (Elm.Push (Operand.Attribute n r)))
 
   previous_agrees : Agrees (elm_of s) s low place.previous_elm paper.previous_elm
-  unfolding place.previous_elm paper.previous_elm elm_of operand_of
+  unfolding paper.previous_elm elm_of operand_of
   previous_agrees = follow_agrees _ _ (this_agrees 80 tt) (λ _. follow_agrees _ _ (this_agrees 86 tt) (λ _. gives_agrees (Elm.Push Operand.Previous)))
 
   multiply_agrees : Agrees (elm_of s) s low place.multiply_elm paper.multiply_elm
-  unfolding place.multiply_elm paper.multiply_elm elm_of operator_of arithmetic_of
+  unfolding paper.multiply_elm elm_of operator_of arithmetic_of
   multiply_agrees = digit_aheads (λ d. gives_agrees (Elm.Binary (Operator.Arithmetic (Arithmetic.Multiply d)))) (gives_agrees (Elm.Binary (Operator.Arithmetic (Arithmetic.Multiply 0))))
 
   bracket_agrees : Agrees (elm_of s) s low place.bracket_elm paper.bracket_elm
-  unfolding place.bracket_elm paper.bracket_elm elm_of operator_of relation_of
+  unfolding paper.bracket_elm elm_of operator_of relation_of
   bracket_agrees = chooses tt (option (gives_agrees Elm.Substring) no_more) (gives_agrees (Elm.Binary (Operator.Relate Relation.AtMost)))
 
   converting_agrees : Agrees (elm_of s) s low place.converting_elm paper.converting_elm
-  unfolding place.converting_elm paper.converting_elm elm_of
+  unfolding paper.converting_elm elm_of
   converting_agrees = follow_agrees _ _ conversion_agrees (λ c. follow_agrees _ _ (this_agrees 41 tt) (λ _. gives_agrees (Elm.Convert c)))
 
 -- the elms of one byte, as the paper lists them
@@ -70,7 +70,7 @@ single_options =
 -- An elm eats a byte at least.
 module _ {s : Bytes} {low : ℕ} (at : ℕ) (g : low ≤ suc at) (h : at ≤ length s) where
   single_agrees : Agree (elm_of s) s low (place.single_elm s at) (paper.choose single_options (drop at s))
-  unfolding place.single_elm paper.choose elm_of operator_of arithmetic_of relation_of
+  unfolding paper.choose elm_of operator_of arithmetic_of relation_of
   single_agrees =
       choose_agrees fails paper.fails at tt g h
       (option (gives_agrees (Elm.Binary (Operator.Arithmetic Arithmetic.Divide)))
@@ -95,7 +95,7 @@ module _ {s : Bytes} {low : ℕ} (at : ℕ) (g : low ≤ suc at) (h : at ≤ len
       (choose_agrees place.single_elm (paper.choose single_options) at tt g h (option bracket_agrees (option converting_agrees no_more)) single_agrees)
 
   longer_agrees : Agree (elm_of s) s low (place.longer_elm s at) (paper.operator_elm (drop at s))
-  unfolding place.longer_elm paper.operator_elm paper.choose choose_or
+  unfolding paper.operator_elm paper.choose choose_or
   longer_agrees =
       choose_agrees
       {cs = (39, place.literal_elm 39) ∷ (34, place.literal_elm 34) ∷ (76, place.previous_elm) ∷ (42, place.multiply_elm) ∷ []}

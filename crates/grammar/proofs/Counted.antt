@@ -17,15 +17,12 @@ use Rattle.grammar.proofs.HeadReads.{head_single}
 
 module _ (s : Bytes) where
   literal_counts : (q : ℕ) → Ever (ElmCounted s) s (place.literal_elm q)
-  unfolding place.literal_elm
   literal_counts q n = follow_any (quoted q s n) _ (λ len k. reads tt)
 
   single_counts : Ever (ElmCounted s) s place.single_elm
-  unfolding place.single_elm
   single_counts = choose_reads _ (search (gives_reads, and_all, none_of) depth 20) (λ n. reads_not)
 
   longer_counts : Ever (ElmCounted s) s place.longer_elm
-  unfolding place.longer_elm place.previous_elm place.multiply_elm place.bracket_elm place.converting_elm
   longer_counts =
       choose_reads _
       (and_all (literal_counts 39)
@@ -38,7 +35,7 @@ module _ (s : Bytes) where
 
   -- What is read of an elm is counted.
   pub elm_counts : Ever (ElmCounted s) s place.elm
-  unfolding place.elm place.attribute_elm
+  unfolding place.elm
   elm_counts n = or_any (numeral 2 s n) _ _ (λ d k. follow_any (place.repeats s k) _ (λ r j. reads tt)) (longer_counts n)
 
   pub elm_counted : (at : ℕ) {e : Elm} {n : ℕ} → place.elm s at ≡ some (e, n) → ElmCounted s e

@@ -1,4 +1,3 @@
-pub mod Answering
 pub mod AgreementLines
 pub mod HeadReads
 pub mod Parted

@@ -1,22 +1,10 @@
 -- Any two outcomes that a public function's contract allows are equal: said of the contract itself.
 use mathlib.Core.Path.{◌≡◌, sym, ◌∙◌}
 use contract.Lifetimes.{Lfts}
-use Rattle.grammar.proofs.ReadElm.refusal.Reads as elm_refusal
-use Rattle.grammar.proofs.ReadHead.refusal.Reads as head_refusal
-use Rattle.grammar.proofs.ReadAddress.refusal.Reads as address_refusal
 use Rattle.grammar.proofs.elms.elm.Reads as elm
 use Rattle.grammar.proofs.heads.head.Reads as head
 use Rattle.grammar.proofs.heads.code_end.Reads as code_end
 use Rattle.grammar.proofs.addresses.address.Reads as address
-
-pub elm_refusal_settled : (κs : Lfts 0) → (a : _) (r r' : _) (e e' : _) → elm_refusal.Post κs a r e → elm_refusal.Post κs a r' e' → r ≡ r'
-elm_refusal_settled κs a r r' e e' p q = p ∙ sym q
-
-pub head_refusal_settled : (κs : Lfts 0) → (a : _) (r r' : _) (e e' : _) → head_refusal.Post κs a r e → head_refusal.Post κs a r' e' → r ≡ r'
-head_refusal_settled κs a r r' e e' p q = p ∙ sym q
-
-pub address_refusal_settled : (κs : Lfts 0) → (a : _) (r r' : _) (e e' : _) → address_refusal.Post κs a r e → address_refusal.Post κs a r' e' → r ≡ r'
-address_refusal_settled κs a r r' e e' p q = p ∙ sym q
 
 pub elm_settled : (κs : Lfts 1) → (a : _) (r r' : _) (e e' : _) → elm.Post κs a r e → elm.Post κs a r' e' → r ≡ r'
 elm_settled κs a r r' e e' p q = p ∙ sym q

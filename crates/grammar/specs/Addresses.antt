@@ -1,14 +1,14 @@
--- A typed address by place, and what each case of the answer is.
-use Rattle.std.specs.Prelude.{ℕ}
+-- A typed address by place, and what is answered.
+use Rattle.std.specs.Prelude.{ℕ, Result, Ok, Err}
 use Rattle.std.proofs.Math.Option.{Option, none, some}
 use Rattle.paper.specs.Bytes.{ch}
-use Rattle.paper.specs.Refusals.{bad_address}
-use Rattle.paper.specs.Program.{Address}
+use Rattle.paper.specs.Program as paper
+use Rattle.paper.specs.declared.Address.{Address}
+use Rattle.paper.specs.declared.Refusal.{Refusal}
 use Rattle.readers.specs.Places.{Placed, ◌>>=◌, ◌>>◌, gives, this, numeral}
-use Rattle.grammar.specs.declared.ReadAddress.{ReadAddress}
 
 -- a comma and a number
-unfoldable pub another : Placed ℕ
+abbrev pub another : Placed ℕ
 another = this (ch ",") >> numeral 4
 
 -- the paper's `address_form` by place
@@ -20,11 +20,6 @@ address = do
   gives (record { a = a; v = v; s = s })
 
 -- another form is 4: "If line 2 is not three numbers of 1 to 5 digits parted by commas, it prints `4 0 `"
-unfoldable pub address_read : Option Address → ReadAddress
-address_read none = ReadAddress.Refused bad_address
-address_read (some p) = ReadAddress.Address p.a p.v p.s
-
--- the number that each case carries
-abbrev pub address_refusal : ReadAddress → ℕ
-address_refusal (ReadAddress.Address a v s) = 0
-address_refusal (ReadAddress.Refused number) = number
+abbrev pub address_read : Option paper.Address → Result Address Refusal
+address_read none = Err Refusal.BadAddress
+address_read (some p) = Ok (record { a = p.a; v = p.v; s = p.s })

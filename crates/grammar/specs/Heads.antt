@@ -1,16 +1,15 @@
 -- What one whole code begins with, the elms behind an `F;`, and where a code of a string ends.
-use Rattle.std.specs.Prelude.{ℕ, suc, List, [], ◌∷◌, length, drop, eqb, if◌then◌else◌}
+use Rattle.std.specs.Prelude.{ℕ, suc, List, [], ◌∷◌, length, drop, eqb, if◌then◌else◌, Result, Ok, Err}
 use Rattle.std.proofs.Math.Option.{Option, none, some}
 use Rattle.paper.specs.Bytes.{Bytes, ch}
 use Rattle.paper.specs.Sizes.{value_mark}
-use Rattle.paper.specs.Refusals.{not_in_grammar}
+use Rattle.paper.specs.declared.Refusal.{Refusal}
 use Rattle.paper.specs.Codes as paper
 use Rattle.paper.specs.Grammar.{elms, all_read}
 use Rattle.codes.specs.declared.Conversion.{Conversion}
 use Rattle.readers.specs.Places.{byte_at}
 use Rattle.readers.specs.Reading.{conversion}
 use Rattle.grammar.specs.declared.Head.{Head}
-use Rattle.grammar.specs.declared.ReadHead.{ReadHead}
 
 -- what one whole code begins with: `F;` and the place of the first elm, or all of it
 abbrev pub whole : ℕ → Option (Conversion × ℕ) → Option Head
@@ -23,15 +22,10 @@ head s =
     then (if eqb (ch ";") (byte_at s 1) then some (Head.Function 2) else none)
     else whole (length s) (conversion s 0)
 
--- each case of the answer: what the code begins with, or refusal 6, "a code is not in the grammar"
-unfoldable pub head_read : Option Head → ReadHead
-head_read none = ReadHead.Refused not_in_grammar
-head_read (some h) = ReadHead.Head h
-
--- "A number not given here, by any call, is 0"
-abbrev pub head_refusal : ReadHead → ℕ
-head_refusal (ReadHead.Head h) = 0
-head_refusal (ReadHead.Refused number) = number
+-- what the code begins with, or refusal 6, "a code is not in the grammar"
+abbrev pub head_read : Option Head → Result Head Refusal
+head_read none = Err Refusal.NotInGrammar
+head_read (some h) = Ok h
 
 -- the elms from a place to the end of the code
 unfoldable pub elms_from : Bytes → ℕ → Option (List paper.Elm)

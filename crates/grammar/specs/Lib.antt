@@ -1,4 +1,3 @@
 pub mod Reading
 pub mod Addresses
-pub mod Answers
 pub mod Heads

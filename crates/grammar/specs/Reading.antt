@@ -11,44 +11,44 @@ use Rattle.readers.specs.Places.{Placed, ◌>>=◌, ◌>>◌, gives, digit_ahead
 use Rattle.readers.specs.Reading.{conversion}
 
 -- "1 to 3 digits, then nothing, `R` or `RR` (an attribute)"
-unfoldable pub repeats : Placed Repeat
+abbrev pub repeats : Placed Repeat
 repeats =
     choose_or
     ((ch "R", choose_or ((ch "R", gives Repeat.FirstSubvalue) ∷ []) (gives Repeat.FirstValue)) ∷ [])
     (gives Repeat.Each)
 
-unfoldable pub attribute_elm : ℕ → Placed Elm
+abbrev pub attribute_elm : ℕ → Placed Elm
 attribute_elm n = repeats >>= λ r. gives (Elm.Push (Operand.Attribute n r))
 
 -- "zero or more bytes in `'` or `"`, without that quote"
-unfoldable pub literal_elm : ℕ → Placed Elm
+abbrev pub literal_elm : ℕ → Placed Elm
 literal_elm = literal (λ start len. Elm.Push (Operand.Literal start len))
 
 -- `LPV`
-unfoldable pub previous_elm : Placed Elm
+abbrev pub previous_elm : Placed Elm
 previous_elm = do
   this (ch "P")
   this (ch "V")
   gives (Elm.Push Operand.Previous)
 
 -- "`*` or `*` and a digit"
-unfoldable pub multiply_elm : Placed Elm
+abbrev pub multiply_elm : Placed Elm
 multiply_elm =
     digit_ahead (λ n. gives (Elm.Binary (Operator.Arithmetic (Arithmetic.Multiply n)))) (gives (Elm.Binary (Operator.Arithmetic (Arithmetic.Multiply 0))))
 
 -- `[]`, or `[` alone
-unfoldable pub bracket_elm : Placed Elm
+abbrev pub bracket_elm : Placed Elm
 bracket_elm = choose_or ((ch "]", gives Elm.Substring) ∷ []) (gives (Elm.Binary (Operator.Relate Relation.AtMost)))
 
 -- "or any one code below in parentheses"
-unfoldable pub converting_elm : Placed Elm
+abbrev pub converting_elm : Placed Elm
 converting_elm = do
   c ← conversion
   this (ch ")")
   gives (Elm.Convert c)
 
 -- the elms of one byte
-unfoldable pub single_elm : Placed Elm
+abbrev pub single_elm : Placed Elm
 single_elm =
     choose
     ((ch "/", gives (Elm.Binary (Operator.Arithmetic Arithmetic.Divide)))
@@ -66,7 +66,7 @@ single_elm =
     ∷ [])
 
 -- the other elms, by their first byte
-unfoldable pub longer_elm : Placed Elm
+abbrev pub longer_elm : Placed Elm
 longer_elm =
     choose_or
     ((ch "'", literal_elm (ch "'"))

@@ -1,7 +1,9 @@
 // Document 01, "The code grammar": an elm of F, read forward: nothing is cut at `;` or `)` first.
+#![tactic(auto, unfolding(readers::specs::Places::choose_or, readers::specs::Places::this))]
+
 ghost use Rattle.std.specs.Prelude.{◌≡◌};
 ghost use Rattle.std.proofs.Math.Option.{some};
-ghost use Rattle.grammar.specs.Answers.{elm_read};
+ghost use Rattle.readers.specs.Answers.{read};
 ghost use Rattle.grammar.specs.Reading.{
   repeats,
   attribute_elm,
@@ -15,189 +17,147 @@ ghost use Rattle.grammar.specs.Reading.{
   elm,
 };
 
-use crate::{ReadElm, Repeats};
 use codes::{Arithmetic, Elm, Operand, Operator, Relation, Repeat};
+use paper::{Read, Refusal};
 use readers::conversions::conversion;
-use readers::places::{digit, numeral, peek, quoted};
-use readers::{ReadConversion, ReadNum, ReadQuoted};
+use readers::places::{digit, numeral, peek, quoted, this};
 
-// "then nothing, `R` or `RR`"
-fn repeats(code: &[u8], at: usize) -> Repeats
-    ensures { some (result.repeat, result.next) ≡ repeats code.now at }
+// "then nothing, `R` or `RR`": what follows an attribute's number
+fn repeats(code: &[u8], at: usize) -> Read<Repeat>
+    ensures { some (result.value, result.next) ≡ repeats code.now at }
 {
     let first = peek(code, at);
-    let letter = first.byte;
-    match letter {
-        b'R' => {
-            let second = peek(code, first.next);
-            let again = second.byte;
-            match again {
-                b'R' => Repeats {
-                    repeat: Repeat::FirstSubvalue,
-                    next: second.next,
-                },
-                _ => Repeats {
-                    repeat: Repeat::FirstValue,
-                    next: first.next,
-                },
-            }
-        }
-        _ => Repeats {
-            repeat: Repeat::Each,
+    if first.value != b'R' {
+        return Read {
+            value: Repeat::Each,
             next: at,
-        },
+        };
+    }
+    let second = peek(code, first.next);
+    if second.value != b'R' {
+        return Read {
+            value: Repeat::FirstValue,
+            next: first.next,
+        };
+    }
+    Read {
+        value: Repeat::FirstSubvalue,
+        next: second.next,
     }
 }
 
 // An attribute, after its number.
-fn attribute_elm(code: &[u8], at: usize, number: u64) -> ReadElm
-    ensures { result ≡ elm_read (attribute_elm number code.now at) }
+fn attribute_elm(code: &[u8], at: usize, number: u64) -> Result<Read<Elm>, Refusal>
+    ensures { result ≡ read (attribute_elm number code.now at) }
 {
     let repeats = repeats(code, at);
-    let repeat = repeats.repeat;
-    ReadElm::Elm {
-        elm: Elm::Push(Operand::Attribute { number, repeat }),
+    Ok(Read {
+        value: Elm::Push(Operand::Attribute {
+            number,
+            repeat: repeats.value,
+        }),
         next: repeats.next,
-    }
+    })
 }
 
 // "zero or more bytes in `'` or `"`, without that quote": the place of the bytes, not a copy
-fn literal_elm(code: &[u8], from: usize, quote: u8) -> ReadElm
-    ensures { result ≡ elm_read (literal_elm quote code.now from) }
+fn literal_elm(code: &[u8], start: usize, quote: u8) -> Result<Read<Elm>, Refusal>
+    ensures { result ≡ read (literal_elm quote code.now start) }
 {
-    let read = quoted(code, from, quote);
-    let ReadQuoted::Quoted { len, next } = read else {
-        return ReadElm::Refused(read.refusal());
-    };
-    ReadElm::Elm {
-        elm: Elm::Push(Operand::Literal { start: from, len }),
-        next,
-    }
+    let literal = quoted(code, start, quote)?;
+    Ok(Read {
+        value: Elm::Push(Operand::Literal {
+            start,
+            len: literal.value,
+        }),
+        next: literal.next,
+    })
 }
 
 // `PV` of `LPV`
-fn previous_elm(code: &[u8], at: usize) -> ReadElm
-    ensures { result ≡ elm_read (previous_elm code.now at) }
+fn previous_elm(code: &[u8], at: usize) -> Result<Read<Elm>, Refusal>
+    ensures { result ≡ read (previous_elm code.now at) }
 {
-    let first = peek(code, at);
-    let letter = first.byte;
-    match letter {
-        b'P' => {
-            let second = peek(code, first.next);
-            let last = second.byte;
-            match last {
-                b'V' => ReadElm::Elm {
-                    elm: Elm::Push(Operand::Previous),
-                    next: second.next,
-                },
-                _ => ReadElm::Refused(paper::refusal::NOT_IN_GRAMMAR),
-            }
-        }
-        _ => ReadElm::Refused(paper::refusal::NOT_IN_GRAMMAR),
-    }
+    let p = this(code, at, b'P')?;
+    let v = this(code, p.next, b'V')?;
+    Ok(Read {
+        value: Elm::Push(Operand::Previous),
+        next: v.next,
+    })
 }
 
 // "`*` or `*` and a digit"
-fn multiply_elm(code: &[u8], at: usize) -> ReadElm
-    ensures { result ≡ elm_read (multiply_elm code.now at) }
+fn multiply_elm(code: &[u8], at: usize) -> Result<Read<Elm>, Refusal>
+    ensures { result ≡ read (multiply_elm code.now at) }
 {
-    let ReadNum::Num { value, next } = digit(code, at) else {
-        return reckoning(Arithmetic::Multiply(0), at);
-    };
-    reckoning(Arithmetic::Multiply(value), next)
+    let digit = digit(code, at).unwrap_or(Read { value: 0, next: at });
+    Ok(Read {
+        value: Elm::Binary(Operator::Arithmetic(Arithmetic::Multiply(digit.value))),
+        next: digit.next,
+    })
 }
 
 // `[]`, or `[` alone
-fn bracket_elm(code: &[u8], at: usize) -> ReadElm
-    ensures { result ≡ elm_read (bracket_elm code.now at) }
+fn bracket_elm(code: &[u8], at: usize) -> Result<Read<Elm>, Refusal>
+    ensures { result ≡ read (bracket_elm code.now at) }
 {
     let ahead = peek(code, at);
-    let byte = ahead.byte;
-    match byte {
-        b']' => ReadElm::Elm {
-            elm: Elm::Substring,
+    match ahead.value {
+        b']' => Ok(Read {
+            value: Elm::Substring,
             next: ahead.next,
-        },
-        _ => relating(Relation::AtMost, at),
+        }),
+        _ => Ok(Read {
+            value: Elm::Binary(Operator::Relate(Relation::AtMost)),
+            next: at,
+        }),
     }
 }
 
 // "or any one code below in parentheses"
-fn converting_elm(code: &[u8], at: usize) -> ReadElm
-    ensures { result ≡ elm_read (converting_elm code.now at) }
+fn converting_elm(code: &[u8], at: usize) -> Result<Read<Elm>, Refusal>
+    ensures { result ≡ read (converting_elm code.now at) }
 {
-    let read = conversion(code, at);
-    let ReadConversion::Conversion { conversion, next } = read else {
-        return ReadElm::Refused(read.refusal());
-    };
-    let ahead = peek(code, next);
-    if ahead.byte != b')' {
-        return ReadElm::Refused(paper::refusal::NOT_IN_GRAMMAR);
-    }
-    ReadElm::Elm {
-        elm: Elm::Convert(conversion),
-        next: ahead.next,
-    }
-}
-
-fn two_entries(operator: Operator, next: usize) -> ReadElm
-    ensures { result ≡ ReadElm.Elm (Elm.Binary operator) next }
-{
-    ReadElm::Elm {
-        elm: Elm::Binary(operator),
-        next,
-    }
-}
-
-fn reckoning(arithmetic: Arithmetic, next: usize) -> ReadElm
-    ensures { result ≡ ReadElm.Elm (Elm.Binary (Operator.Arithmetic arithmetic)) next }
-{
-    two_entries(Operator::Arithmetic(arithmetic), next)
-}
-
-fn relating(relation: Relation, next: usize) -> ReadElm
-    ensures { result ≡ ReadElm.Elm (Elm.Binary (Operator.Relate relation)) next }
-{
-    two_entries(Operator::Relate(relation), next)
+    let conversion = conversion(code, at)?;
+    let close = this(code, conversion.next, b')')?;
+    Ok(Read {
+        value: Elm::Convert(conversion.value),
+        next: close.next,
+    })
 }
 
 // `/` `R` `+` `-` `:` `_` `P`; `=` `#` `>` `<` `]`
-fn single_elm(code: &[u8], at: usize) -> ReadElm
-    ensures { result ≡ elm_read (single_elm code.now at) }
+fn single_elm(code: &[u8], at: usize) -> Result<Read<Elm>, Refusal>
+    ensures { result ≡ read (single_elm code.now at) }
 {
     let ahead = peek(code, at);
-    let byte = ahead.byte;
-    let next = ahead.next;
-    match byte {
-        b'/' => reckoning(Arithmetic::Divide, next),
-        b'R' => reckoning(Arithmetic::Rest, next),
-        b'+' => reckoning(Arithmetic::Add, next),
-        b'-' => reckoning(Arithmetic::Subtract, next),
-        b':' => two_entries(Operator::Concatenate, next),
-        b'_' => ReadElm::Elm {
-            elm: Elm::Exchange,
-            next,
-        },
-        b'P' => ReadElm::Elm {
-            elm: Elm::Duplicate,
-            next,
-        },
-        b'=' => relating(Relation::Equal, next),
-        b'#' => relating(Relation::Unequal, next),
-        b'>' => relating(Relation::Greater, next),
-        b'<' => relating(Relation::Lesser, next),
-        b']' => relating(Relation::AtLeast, next),
-        _ => ReadElm::Refused(paper::refusal::NOT_IN_GRAMMAR),
-    }
+    let value = match ahead.value {
+        b'/' => Elm::Binary(Operator::Arithmetic(Arithmetic::Divide)),
+        b'R' => Elm::Binary(Operator::Arithmetic(Arithmetic::Rest)),
+        b'+' => Elm::Binary(Operator::Arithmetic(Arithmetic::Add)),
+        b'-' => Elm::Binary(Operator::Arithmetic(Arithmetic::Subtract)),
+        b':' => Elm::Binary(Operator::Concatenate),
+        b'_' => Elm::Exchange,
+        b'P' => Elm::Duplicate,
+        b'=' => Elm::Binary(Operator::Relate(Relation::Equal)),
+        b'#' => Elm::Binary(Operator::Relate(Relation::Unequal)),
+        b'>' => Elm::Binary(Operator::Relate(Relation::Greater)),
+        b'<' => Elm::Binary(Operator::Relate(Relation::Lesser)),
+        b']' => Elm::Binary(Operator::Relate(Relation::AtLeast)),
+        _ => return Err(Refusal::NotInGrammar),
+    };
+    Ok(Read {
+        value,
+        next: ahead.next,
+    })
 }
 
 // The elms of more bytes, by the first.
-fn longer_elm(code: &[u8], at: usize) -> ReadElm
-    ensures { result ≡ elm_read (longer_elm code.now at) }
+fn longer_elm(code: &[u8], at: usize) -> Result<Read<Elm>, Refusal>
+    ensures { result ≡ read (longer_elm code.now at) }
 {
     let ahead = peek(code, at);
-    let byte = ahead.byte;
-    match byte {
+    match ahead.value {
         b'\'' => literal_elm(code, ahead.next, b'\''),
         b'"' => literal_elm(code, ahead.next, b'"'),
         b'L' => previous_elm(code, ahead.next),
@@ -209,11 +169,12 @@ fn longer_elm(code: &[u8], at: usize) -> ReadElm
 }
 
 // The elm at a place of its code.
-pub fn elm(code: &[u8], at: usize) -> ReadElm
-    ensures { result ≡ elm_read (elm code.now at) }
+#[tactic(auto, unfolding(crate::specs::Reading::elm))]
+pub fn elm(code: &[u8], at: usize) -> Result<Read<Elm>, Refusal>
+    ensures { result ≡ read (elm code.now at) }
 {
-    let ReadNum::Num { value, next } = numeral(code, at, 2) else {
+    let Ok(number) = numeral(code, at, 2) else {
         return longer_elm(code, at);
     };
-    attribute_elm(code, next, value)
+    attribute_elm(code, number.next, number.value)
 }

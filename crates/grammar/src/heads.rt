@@ -2,38 +2,29 @@
 ghost use Rattle.std.specs.Prelude.{◌≡◌, ◌≤◌, length, drop};
 ghost use Rattle.grammar.specs.Heads.{head, head_read, code_end};
 
-use crate::{Head, ReadHead};
+use crate::Head;
 use lent::first_within;
-use paper::Mark;
-use readers::ReadConversion;
+use paper::{Mark, Refusal};
 use readers::conversions::conversion;
-use readers::places::peek;
+use readers::places::{peek, this};
 
 // What one whole code begins with.
-pub fn head(code: &[u8]) -> ReadHead
+#[tactic(auto, unfolding(crate::specs::Heads::head, readers::specs::Places::choose_or, readers::specs::Places::this))]
+pub fn head(code: &[u8]) -> Result<Head, Refusal>
     ensures { result ≡ head_read (head code.now) }
 {
-    let first = peek(code, 0);
-    let letter = first.byte;
-    match letter {
+    match peek(code, 0).value {
         b'F' => {
-            let second = peek(code, 1);
-            if second.byte == b';' {
-                ReadHead::Head(Head::Function { first: 2 })
-            } else {
-                ReadHead::Refused(paper::refusal::NOT_IN_GRAMMAR)
-            }
+            this(code, 1, b';')?;
+            // 2 each time: the case is public, and the crates above begin at its place without knowing what an F code begins with
+            Ok(Head::Function { first: 2 })
         }
         _ => {
-            let read = conversion(code, 0);
-            let ReadConversion::Conversion { conversion, next } = read else {
-                return ReadHead::Refused(read.refusal());
-            };
-            if next == code.len() {
-                ReadHead::Head(Head::Single(conversion))
-            } else {
-                ReadHead::Refused(paper::refusal::NOT_IN_GRAMMAR)
+            let single = conversion(code, 0)?;
+            if single.next != code.len() {
+                return Err(Refusal::NotInGrammar);
             }
+            Ok(Head::Single(single.value))
         }
     }
 }

@@ -162,7 +162,7 @@ module _ {s : Bytes} {low : ℕ} where
   numeral_agrees j = record { at = λ n l u. numeral_at_agrees j n (omega arith) u }
 
   pub num_agrees : Agrees (λ (n : ℕ). n) s low num paper.num
-  unfolding num paper.num
+  unfolding paper.num
   num_agrees = numeral_agrees 3
 
   pub only_if_agrees : (t : Bool) → Agrees (λ (x : Unit {0}). x) s low (only_if t) (paper.only_if t)
@@ -177,11 +177,6 @@ module _ {s : Bytes} {low : ℕ} where
   pub flag_agrees : (c : ℕ) → T (not (eqb c 255)) → Agrees (λ (x : Bool). x) s low (flag c) (paper.flag c)
   unfolding flag paper.flag
   flag_agrees c e = record { at = λ n l u. choose_agrees {cs = (c, gives true) ∷ []} (gives false) (paper.gives false) n (rw (unless (eqb c 255) e) tt) (omega arith) u (option (gives_agrees true) no_more) (both false n l u) }
-
--- The number at a place is the paper's there, and each stops where the other does.
-pub num_reads : (s : Bytes) (at : ℕ) → at ≤ length s → Agree (λ (n : ℕ). n) s (suc at) (num s at) (paper.num (drop at s))
-unfolding num paper.num
-num_reads s at h = numeral_at_agrees 3 at (omega arith) h
 
 -- the digits of a number always read something
 more_digits_read : (j v : ℕ) (s : Bytes) (at : ℕ) → (w : ℕ) × (n : ℕ) × (more_digits j v s at ≡ some (w, n))

@@ -1,5 +1,6 @@
 -- Each line of the grammar of codes other than F, by place, agrees with the paper's line.
 use Prim.Native.Nat.{ℕ, suc, ◌≤◌, ◌-◌}
+use Rattle.std.specs.Prelude.{Some, None}
 use mathlib.Core.Path.{◌≡◌, refl, subst}
 use mathlib.Core.Bool.{Bool, true, false}
 use mathlib.Core.List.{List}
@@ -12,11 +13,10 @@ use Rattle.paper.specs.Sizes.{is_mark}
 use Rattle.paper.specs.Grammar as paper
 use Rattle.paper.specs.Codes as codes
 use Rattle.paper.specs.Patterns.{tests_in}
-use Rattle.codes.specs.Meaning.{credit_of, fill_of, mask_of, plain_of, separator_of, patterns_at, conversion_of}
+use Rattle.codes.specs.Meaning.{credit_of, fill_of, mask_of, plain_of, patterns_at, conversion_of}
 use Rattle.codes.specs.declared.Credit.{Credit}
 use Rattle.codes.specs.declared.Fill.{Fill}
 use Rattle.codes.specs.declared.Plain.{Plain}
-use Rattle.codes.specs.declared.Separator.{Separator}
 use Rattle.codes.specs.declared.Conversion.{Conversion}
 use Rattle.readers.specs.Places.{Placed, follow, gives, fails}
 use Rattle.readers.specs.Reading as place
@@ -31,47 +31,47 @@ plained_agrees (both a n l u) = both (Conversion.Plain a) n l u
 module _ {s : Bytes} {low : ℕ} where
   -- `G{num}x num`
   separator_agrees : Agrees (λ (n : ℕ). n) s low place.separator paper.separator
-  unfolding place.separator place.separates paper.separator is_digit is_mark
+  unfolding place.separates paper.separator is_digit is_mark
   separator_agrees = aheads place.separates refl gives_agrees fails_agrees
 
   group_after_agrees : (skip : ℕ) → Agrees plain_of s low (place.group_after skip) (paper.group_after skip)
-  unfolding place.group_after paper.group_after plain_of
+  unfolding paper.group_after plain_of
   group_after_agrees skip =
       follow_agrees _ _ separator_agrees (λ x. follow_agrees _ _ num_agrees (λ v. follow_agrees _ _ (only_if_agrees (ltb 0 v)) (λ _. gives_agrees (Plain.Group skip x v))))
 
   group_code_agrees : Agrees plain_of s low place.group_code paper.group_code
-  unfolding place.group_code paper.group_code
+  unfolding paper.group_code
   group_code_agrees = numeral_aheads 3 group_after_agrees (group_after_agrees 0)
 
   -- `T num` or `T num,num`
   extract_from_agrees : (start : ℕ) → Agrees plain_of s low (place.extract_from start) (paper.extract_from start)
-  unfolding place.extract_from paper.extract_from plain_of
+  unfolding paper.extract_from plain_of
   extract_from_agrees start = follow_agrees _ _ (only_if_agrees (ltb 0 start)) (λ _. follow_agrees _ _ num_agrees (λ v. gives_agrees (Plain.Extract start v)))
 
   extract_code_agrees : Agrees plain_of s low place.extract_code paper.extract_code
-  unfolding place.extract_code paper.extract_code plain_of
+  unfolding paper.extract_code plain_of
   extract_code_agrees = follow_agrees _ _ num_agrees (λ v. chooses tt (option (extract_from_agrees v) no_more) (gives_agrees (Plain.Extract 1 v)))
 
   -- `L`, `L num`, `L num,num`
   admit_from_agrees : (least : ℕ) → Agrees plain_of s low (place.admit_from least) (paper.admit_from least)
-  unfolding place.admit_from paper.admit_from plain_of
+  unfolding paper.admit_from plain_of
   admit_from_agrees least = follow_agrees _ _ num_agrees (λ v. gives_agrees (Plain.Admit least v))
 
   length_after_agrees : (v : ℕ) → Agrees plain_of s low (place.length_after v) (paper.length_after v)
-  unfolding place.length_after paper.length_after plain_of
+  unfolding paper.length_after plain_of
   length_after_agrees v = chooses tt (option (admit_from_agrees v) no_more) (gives_agrees (Plain.Admit 0 v))
 
   length_code_agrees : Agrees plain_of s low place.length_code paper.length_code
-  unfolding place.length_code paper.length_code plain_of
+  unfolding paper.length_code plain_of
   length_code_agrees = numeral_aheads 3 length_after_agrees (gives_agrees Plain.Measure)
 
   -- `MCA` `MC/A` `MCN` `MC/N` `MCU` `MCL` `MCT`
   except_code_agrees : Agrees plain_of s low place.except_code paper.except_code
-  unfolding place.except_code paper.except_code paper.choose plain_of
+  unfolding paper.except_code paper.choose plain_of
   except_code_agrees = chooses tt (option (gives_agrees Plain.OtherThanLetters) (option (gives_agrees Plain.OtherThanNumerals) no_more)) fails_agrees
 
   character_code_agrees : Agrees plain_of s low place.character_code paper.character_code
-  unfolding place.character_code paper.character_code paper.choose plain_of
+  unfolding paper.character_code paper.choose plain_of
   character_code_agrees =
       chooses tt
       (option (gives_agrees Plain.Letters)
@@ -84,35 +84,35 @@ module _ {s : Bytes} {low : ℕ} where
 
   -- `ML` or `MR`
   scales_agrees : Agrees (λ (p : ℕ × ℕ). p) s low place.scales paper.scales
-  unfolding place.scales paper.scales
+  unfolding paper.scales
   scales_agrees = digit_aheads (λ d. digit_aheads (λ e. gives_agrees (d, e)) (gives_agrees (d, d))) (gives_agrees (0, 0))
 
   credit_letter_agrees : Agrees credit_of s low place.credit_letter paper.credit_letter
-  unfolding place.credit_letter paper.credit_letter credit_of
+  unfolding paper.credit_letter credit_of
   credit_letter_agrees =
       chooses tt
-      (option (gives_agrees Credit.Credit)
-      (option (gives_agrees Credit.Debit)
-      (option (gives_agrees Credit.Enclosed)
-      (option (gives_agrees Credit.Trailing)
-      (option (gives_agrees Credit.Suppressed) no_more)))))
-      (gives_agrees Credit.Absent)
+      (option (gives_agrees (Some Credit.Credit))
+      (option (gives_agrees (Some Credit.Debit))
+      (option (gives_agrees (Some Credit.Enclosed))
+      (option (gives_agrees (Some Credit.Trailing))
+      (option (gives_agrees (Some Credit.Suppressed)) no_more)))))
+      (gives_agrees None)
 
   fill_byte_agrees : Agrees (λ (n : ℕ). n) s low place.fill_byte paper.fill_byte
-  unfolding place.fill_byte paper.fill_byte paper.choose
+  unfolding paper.fill_byte paper.choose
   fill_byte_agrees = chooses tt (option (gives_agrees 32) (option (gives_agrees 42) (option (gives_agrees 48) no_more))) fails_agrees
 
   fill_width_agrees : Agrees fill_of s low place.fill_width paper.fill_width
-  unfolding place.fill_width place.fill_field paper.fill_width fill_of
+  unfolding paper.fill_width
   fill_width_agrees =
       follow_agrees _ _ fill_byte_agrees
       (λ fill. follow_agrees _ _ num_agrees
       (λ v. follow_agrees _ _ (only_if_agrees (within 1 99 v))
-      (λ _. follow_agrees _ _ (this_agrees 41 tt) (λ _. gives_agrees (Fill.Field fill v)))))
+      (λ _. follow_agrees _ _ (this_agrees 41 tt) (λ _. gives_agrees (Some (record { byte = fill; width = v }))))))
 
   fill_part_agrees : Agrees fill_of s low place.fill_part paper.fill_part
-  unfolding place.fill_part paper.fill_part fill_of
-  fill_part_agrees = chooses tt (option fill_width_agrees no_more) (gives_agrees Fill.Absent)
+  unfolding paper.fill_part
+  fill_part_agrees = chooses tt (option fill_width_agrees no_more) (gives_agrees None)
 
   mask_code_agrees : (left : Bool) → Agrees (conversion_of s) s low (place.mask_code left) (paper.mask_code left)
   unfolding place.mask_code paper.mask_code conversion_of mask_of
@@ -126,11 +126,11 @@ module _ {s : Bytes} {low : ℕ} where
 
   -- `D{n}{s}`
   date_after_agrees : (n : ℕ) → Agrees (conversion_of s) s low (place.date_after n) (paper.date_after n)
-  unfolding place.date_after paper.date_after paper.is_separator conversion_of separator_of
-  date_after_agrees n = aheads paper.is_separator refl (λ b. gives_agrees (Conversion.Date n (Separator.Byte b))) (gives_agrees (Conversion.Date n Separator.Absent))
+  unfolding paper.date_after paper.is_separator conversion_of
+  date_after_agrees n = aheads paper.is_separator refl (λ b. gives_agrees (Conversion.Date n (Some b))) (gives_agrees (Conversion.Date n None))
 
   date_code_agrees : Agrees (conversion_of s) s low place.date_code paper.date_code
-  unfolding place.date_code paper.date_code
+  unfolding paper.date_code
   date_code_agrees = aheads (within 48 52) refl (λ b. date_after_agrees (digit_value b)) (date_after_agrees 4)
 
   -- `P` and its patterns

@@ -45,9 +45,6 @@ after_past s at h = simp (le-ltb at (length s) h)
 pub peeked_inside : (s : Bytes) (at : ℕ) → at < length s → Peeked s at (get_or s at 0) (at + 1)
 peeked_inside s at h = record { stands = byte_inside s at 0 h; leads = after_inside s at h }
 
-pub peeked_past : (s : Bytes) (at : ℕ) → length s ≤ at → Peeked s at 255 at
-peeked_past s at h = record { stands = byte_past s at h; leads = after_past s at h }
-
 pub peeked_drop : {s : Bytes} {at b n : ℕ} → at < length s → Peeked s at b n → drop at s ≡ b ∷ drop n s
 peeked_drop {s} {at} h p = rw (p.stands, p.leads) (ahead_of s at h)
 

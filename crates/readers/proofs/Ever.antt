@@ -65,4 +65,4 @@ digit_reads s n = small (digit s n) refl
   where
     small : (o : Option (ℕ × ℕ)) → digit s n ≡ o → Reads (λ d. d ≤ 9) o
     small none e = reads_not
-    small (some r) e = reads (digit_small s n r.0 r.1 e)
+    small (some r) e = reads (digit_small s n e)

@@ -1,6 +1,7 @@
 -- What the readers of the grammar keep a code other than F within: digits, a mask's width, the patterns of a P code. One walk over the readers; what others
 -- ask of a code that was read follows from it. Assumes nothing.
-use Rattle.std.specs.Prelude.{if◌then◌else◌}
+use Rattle.std.specs.Prelude.{if◌then◌else◌, None, Some}
+use Rattle.std.specs.Prelude.{Option as Maybe}
 use mathlib.Core.Path.{◌≡◌, refl}
 use mathlib.Core.Bool.{Bool, true, false, ◌&&◌}
 use mathlib.Core.List.{List}
@@ -19,22 +20,21 @@ use Rattle.paper.proofs.Predicates.{Reads, reads, reads_not, reads_either, none_
 use Rattle.codes.specs.declared.Fill.{Fill}
 use Rattle.codes.specs.declared.Mask.{Mask}
 use Rattle.codes.specs.declared.Plain.{Plain}
-use Rattle.codes.specs.declared.Separator.{Separator}
 use Rattle.codes.specs.declared.Conversion.{Conversion}
 use Rattle.readers.specs.Places.{Placed, follow, gives, byte_at, after, this, flag, num}
 use Rattle.readers.specs.Reading as place
 use Rattle.readers.proofs.Ever.{Ever, follow_then, follow_any, or_then, only_then, choose_reads, digit_reads}
 
 -- `(fill num)`, "this num 1 to 99"
-pub data Narrow : Fill → Type 0 where
-  no_field : Narrow Fill.Absent
-  field : {byte width : ℕ} → width ≤ 99 → Narrow (Fill.Field byte width)
+pub data Narrow : Maybe Fill → Type 0 where
+  no_field : Narrow None
+  field : {f : Fill} → f.width ≤ 99 → Narrow (Some f)
 
 -- `{n{m}}` are a digit each; "`D{n}{s}`, n 0 to 4"; the patterns stand in the code, and are counted
 pub data Kept (s : Bytes) : Conversion → Type 0 where
   plain_kept : {p : Plain} → Kept s (Conversion.Plain p)
   mask_kept : {m : Mask} → m.decimals ≤ 9 → m.scale ≤ 9 → Narrow m.filled → Kept s (Conversion.Mask m)
-  date_kept : {n : ℕ} {separator : Separator} → n ≤ 4 → Kept s (Conversion.Date n separator)
+  date_kept : {n : ℕ} {separator : Maybe ℕ} → n ≤ 4 → Kept s (Conversion.Date n separator)
   patterns_kept : {start : ℕ} {ps : List Pattern} {rest : Bytes} → pattern_list (drop start s) ≡ some (ps, rest)
       → Kept s (Conversion.Patterns start (tests_in ps))
 
@@ -44,19 +44,16 @@ module _ (s : Bytes) where
   Digits d = (d.0 ≤ 9) × (d.1 ≤ 9)
 
   scales_reads : Ever Digits s place.scales
-  unfolding place.scales
   scales_reads n =
       or_then _ _ (digit_reads s n)
       (λ d p k. or_then _ _ (digit_reads s k) (λ e q j. reads (p, q)) (reads (p, p)))
       (reads (lit≤ tt, lit≤ tt))
 
   width_reads : (b : ℕ) → Ever Narrow s (place.fill_field b)
-  unfolding place.fill_field
   width_reads b n =
       follow_any (num s n) _ (λ v k. only_then (within 1 99 v) _ k (λ e j. follow_any (this 41 s j) _ (λ _ i. reads (field (leb-true v 99 (both (leb 1 v) (leb v 99) e).1)))))
 
   fill_reads : Ever Narrow s place.fill_part
-  unfolding place.fill_part place.fill_width
   fill_reads = choose_reads _ (and_all (λ n. follow_any (place.fill_byte s n) _ width_reads) none_of) (λ n. reads no_field)
 
   mask_reads : (left : Bool) → Ever (Kept s) s (place.mask_code left)
@@ -72,11 +69,10 @@ module _ (s : Bytes) where
 
   -- `D{n}{s}`, "n 0 to 4"
   date_reads : {d : ℕ} → d ≤ 4 → Ever (Kept s) s (place.date_after d)
-  unfolding place.date_after
   date_reads h n = reads_either (is_separator (byte_at s n)) (reads (date_kept h)) (reads (date_kept h))
 
   dates_read : Ever (Kept s) s place.date_code
-  unfolding place.date_code digit_value
+  unfolding digit_value
   dates_read n = digits (leb 48 (byte_at s n)) (leb (byte_at s n) 52) refl
     where
       digits : (t u : Bool) → leb (byte_at s n) 52 ≡ u

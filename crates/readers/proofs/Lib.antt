@@ -1,8 +1,6 @@
 pub mod Bytes
 pub mod Answering
 pub mod Taken
-pub mod Separators
-pub mod Lines
 pub mod Agreement
 pub mod Quotes
 pub mod Many

@@ -1,14 +1,17 @@
 -- Document 02, L1: a test by its place is the paper's, and the paper's patterns from place to place: this test and those behind it, this pattern and those
 -- behind it. Each leaves what stands behind a place of the code, two bytes a test further on at least. Assumes nothing.
+use Rattle.std.specs.Prelude.{if◌then◌else◌}
 use Prim.Native.Nat.{ℕ, suc, ◌<◌, ◌≤◌, ◌+◌, ◌-◌, ◌*◌}
 use mathlib.Core.Path.{◌≡◌, refl, sym, ap, ◌∙◌}
 use mathlib.Core.Logic.{⊎_elim}
 use mathlib.Core.List.{List, [], ◌∷◌}
-use mathlib.Core.Option.{none, some}
+use mathlib.Core.Option.{Option, none, some}
+use mathlib.Core.Bool.{Bool, true, false}
 use lib.ListN.{length, drop, length-append, length-drop, drop_of_length-le}
 use lib.Seq.{drop_at, drop-drop}
 use lib.Dec.{eqb}
 use native.Mathlib.Omega.{arith}
+use borrow.Author.Tests.{eqb-true, eqb-false}
 use Rattle.paper.specs.Bytes.{Bytes, is_digit}
 use Rattle.paper.specs.Codes as codes
 use Rattle.paper.specs.Grammar as paper
@@ -21,7 +24,7 @@ use Rattle.paper.proofs.Weights.{test_told, pattern_told, patterns_told}
 use Rattle.codes.specs.Meaning.{class_of, test_of}
 use Rattle.codes.specs.declared.Class.{Class}
 use Rattle.codes.specs.declared.Test.{Test}
-use Rattle.readers.specs.Places.{Peeked, fails, choose_or, digit, numeral}
+use Rattle.readers.specs.Places.{Peeked, byte_at, after, fails, choose_or, this, digit, numeral}
 use Rattle.readers.specs.Reading as place
 use Rattle.readers.proofs.Bytes.{byte_past}
 use Rattle.readers.proofs.Agreement.{Agree, neither, Agrees, no_more, option, gives_agrees, fails_agrees, chooses, follow_agrees}
@@ -32,7 +35,7 @@ use Rattle.readers.proofs.Many.{parted_of, parted_none, closed_of, closed_none, 
 
 module _ {s : Bytes} {low : ℕ} where
   class_letter_agrees : Agrees class_of s low place.class_letter paper.class_letter
-  unfolding place.class_letter paper.class_letter paper.choose class_of
+  unfolding paper.class_letter paper.choose class_of
   class_letter_agrees =
       chooses tt (option (gives_agrees Class.Numeric) (option (gives_agrees Class.Alpha) (option (gives_agrees Class.Character) no_more))) fails_agrees
 
@@ -47,7 +50,7 @@ module _ {s : Bytes} {low : ℕ} where
 
 -- The test at a place is the paper's there, and each stops where the other does.
 pub test_reads : (s : Bytes) (at : ℕ) → at ≤ length s → Agree (test_of s) s (suc at) (place.test s at) (paper.test (drop at s))
-unfolding place.test place.quoted_test paper.test paper.count_test paper.choose
+unfolding place.quoted_test paper.test paper.count_test paper.choose
 test_reads s at h =
     numeral_ahead_agrees 2 place.count_test (λ n bs. paper.follow (paper.class_letter bs) (λ c. paper.gives (codes.so_many n c)))
     place.quoted_test (paper.choose ((39, paper.literal_test 39) ∷ (34, paper.literal_test 34) ∷ []))
@@ -55,7 +58,7 @@ test_reads s at h =
     (choose_agrees fails paper.fails at tt (omega arith) h (option (literal_test_agrees 39) (option (literal_test_agrees 34) no_more)) neither)
 
 test_past : (s : Bytes) (at : ℕ) → length s ≤ at → place.test s at ≡ none
-unfolding place.test place.quoted_test choose_or digit numeral is_digit
+unfolding place.quoted_test choose_or digit numeral is_digit
 test_past s at u = rw (← byte_past s at u)
 
 -- and past the end neither reads
@@ -132,6 +135,21 @@ module _ (s : Bytes) (at : ℕ) where
     pub pattern_none : (b ≡ 40 → ⊥) → paper.pattern (drop at s) ≡ none
     unfolding paper.pattern paper.this
     pattern_none j = rw (ahead_miss 40 (λ _. paper.gives (tt {0})) paper.fails p j)
+
+  abbrev pub opened : Option (Unit {0} × ℕ) → Option (codes.Pattern × Bytes)
+  opened none = none
+  opened (some r) = paper.tests (drop r.1 s)
+
+  pub pattern_is : paper.pattern (drop at s) ≡ opened (this 40 s at)
+  unfolding this choose_or
+  pattern_is = go (eqb 40 (byte_at s at)) refl
+    where
+      here : Peeked s at (byte_at s at) (after s at)
+      here = record { stands = refl; leads = refl }
+
+      go : (t : Bool) → eqb 40 (byte_at s at) ≡ t → paper.pattern (drop at s) ≡ opened (if t then some (tt, after s at) else none)
+      go true e = pattern_open here (sym (eqb-true 40 _ e))
+      go false e = pattern_none here (λ j. eqb-false 40 _ e (sym j))
 
   -- the patterns of a code: none, one with no semicolon behind it, one before others
   pub patterns_none : paper.pattern (drop at s) ≡ none → paper.pattern_list (drop at s) ≡ none

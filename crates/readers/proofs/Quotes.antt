@@ -1,7 +1,9 @@
 -- A literal's closing quote: found from place to place, and where the paper's reader stops. The law of every literal is stated once here.
-use Rattle.std.specs.Prelude.{if◌then◌else◌}
+use Rattle.std.specs.Prelude.{if◌then◌else◌, cond, Some, None}
+use Rattle.std.specs.Prelude.{Option as Maybe}
+use Rattle.std.specs.List.{position_from}
 use Prim.Native.Nat.{ℕ, suc, ◌<◌, ◌≤◌, ◌+◌, ◌-◌}
-use mathlib.Core.Path.{◌≡◌, refl, ap}
+use mathlib.Core.Path.{◌≡◌, refl, sym, ap, ◌∙◌}
 use mathlib.Core.Bool.{Bool, true, false}
 use mathlib.Core.List.{[], ◌∷◌}
 use mathlib.Core.Option.{Option, none, some}
@@ -11,33 +13,36 @@ use lib.Dec.{eqb}
 use native.Mathlib.Numerals.{add-one}
 use native.Mathlib.Omega.{arith}
 use borrow.Author.Tests.{eq-eqb, ne_eqb}
+use Rattle.paper.specs.Answers.{maybe_by}
 use Rattle.paper.specs.Bytes.{Bytes}
 use Rattle.paper.specs.Grammar as paper
 use Rattle.paper.proofs.Predicates.{Reads, reads, reads_not}
 use Rattle.readers.specs.Places.{follow, gives, closing, enclosed, quoted, literal}
 use Rattle.readers.proofs.Agreement.{Agree, neither, both, Agrees}
 
-module _ (s : Bytes) (at : ℕ) where
-  -- the quote: here, further on, nowhere
-  pub closing_here : (q : ℕ) → at < length s → get_or s at 0 ≡ q → closing q (drop at s) at ≡ some at
-  unfolding closing
-  closing_here q h e = rw (drop-cons s at 0 h, e, eq-eqb q q refl)
+closing_first : (q : ℕ) (bs : Bytes) (i at : ℕ) → closing q bs (at + i) ≡ maybe_by (λ k. at + k) (position_from (λ b. eqb b q) i bs)
+unfolding closing
+closing_first q [] i at = refl
+closing_first q (b ∷ bs) i at = here (eqb b q) (closing_first q bs (i + 1) at)
+  where
+    here : (t : Bool) → closing q bs (at + (i + 1)) ≡ maybe_by (λ k. at + k) (position_from (λ b. eqb b q) (i + 1) bs)
+        → (if t then some (at + i) else closing q bs (suc (at + i))) ≡ maybe_by (λ k. at + k) (cond t (Some i) (position_from (λ b. eqb b q) (i + 1) bs))
+    here true e = refl
+    here false e = let onward : suc (at + i) ≡ at + (i + 1) = omega arith in rw (onward, e)
 
-  pub closing_on : (q : ℕ) → at < length s → (get_or s at 0 ≡ q → ⊥) → closing q (drop at s) at ≡ closing q (drop (at + 1) s) (at + 1)
-  unfolding closing
-  closing_on q h k = rw (drop-cons s at 0 h, ne_eqb (get_or s at 0) q k, add-one)
+-- the first quote from a place on, as `position` tells it: how many bytes stand before it, and the place after it
+pub found_quote : (q : ℕ) (s : Bytes) (at : ℕ) (r : Maybe ℕ) → r ≡ position_from (λ b. eqb b q) 0 (drop at s) → quoted q s at ≡ maybe_by (λ k. (k, at + k + 1)) r
+unfolding quoted
+found_quote q s at r e =
+    let first : closing q (drop at s) at ≡ maybe_by (λ k. at + k) r = rw e (ap (closing q (drop at s)) (zeroth at) ∙ closing_first q (drop at s) 0 at) in
+    ap (enclosed at) first ∙ placed r
+  where
+    zeroth : (n : ℕ) → n ≡ n + 0
+    zeroth n = omega arith
 
-  pub closing_none : (q : ℕ) → length s ≤ at → closing q (drop at s) at ≡ none
-  unfolding closing
-  closing_none q h = rw (drop_of_length-le s h)
-
-  pub quoted_closed : (q n : ℕ) → closing q (drop at s) at ≡ some n → quoted q s at ≡ some (n - at, n + 1)
-  unfolding quoted
-  quoted_closed q n e = ap (enclosed at) e
-
-  pub quoted_open : (q : ℕ) → closing q (drop at s) at ≡ none → quoted q s at ≡ none
-  unfolding quoted
-  quoted_open q e = ap (enclosed at) e
+    placed : (r : Maybe ℕ) → enclosed at (maybe_by (λ k. at + k) r) ≡ maybe_by (λ k. (k, at + k + 1)) r
+    placed None = refl
+    placed (Some k) = let len : at + k - at ≡ k = omega arith in rw len
 
 -- The bytes before a quote: where the quote is found, what the paper's reader takes and leaves.
 data Closed (q : ℕ) (bs : Bytes) (at : ℕ) : Option ℕ → Option (Bytes × Bytes) → Type 0 where

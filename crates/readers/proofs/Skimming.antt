@@ -15,10 +15,6 @@ abbrev pub raised : ℕ → Option (ℕ × ℕ) → Option (ℕ × ℕ)
 raised k none = none
 raised k (some r) = some (k + r.0, r.1)
 
-pub raised_zero : (o : Option (ℕ × ℕ)) → raised 0 o ≡ o
-raised_zero none = refl
-raised_zero (some r) = ap (λ (n : ℕ). some (n, r.1)) (omega arith)
-
 module _ {A : Type 0} (size : A → ℕ) (s : Bytes) (k : ℕ) where
   pub skimmed_none : {o : Option (A × Bytes)} → o ≡ none → raised k (skimmed size s o) ≡ none
   unfolding skimmed

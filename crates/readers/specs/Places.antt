@@ -77,7 +77,7 @@ more_digits (suc k) n = digit_ahead (λ d. more_digits k (n * 10 + d)) (gives n)
 unfoldable pub numeral : ℕ → Placed ℕ
 numeral k = digit_ahead (more_digits k) fails
 
-unfoldable pub num : Placed ℕ
+abbrev pub num : Placed ℕ
 num = numeral 3
 
 -- a numeral ahead: if none stands there, `other`

@@ -1,6 +1,7 @@
 -- Document 01, "The code grammar", and document 02, L1, by place: the codes other than F, the lines of crates/paper/specs/Grammar.antt in their order,
 -- as the enums of `codes`.
 use Rattle.std.specs.Prelude.{ℕ, ◌-◌, Bool, true, false, not, ◌||◌, [], ◌∷◌, length, drop, ltb}
+use Rattle.std.specs.Prelude.{Option as Maybe, Some, None}
 use Rattle.std.proofs.Math.Option.{Option, none, some}
 use Rattle.paper.specs.Bytes.{Bytes, ch, within, is_digit, digit_value}
 use Rattle.paper.specs.Sizes.{is_mark}
@@ -9,7 +10,6 @@ use Rattle.paper.specs.Patterns.{tests_in}
 use Rattle.codes.specs.declared.Credit.{Credit}
 use Rattle.codes.specs.declared.Fill.{Fill}
 use Rattle.codes.specs.declared.Plain.{Plain}
-use Rattle.codes.specs.declared.Separator.{Separator}
 use Rattle.codes.specs.declared.Class.{Class}
 use Rattle.codes.specs.declared.Test.{Test}
 use Rattle.codes.specs.declared.Conversion.{Conversion}
@@ -20,44 +20,44 @@ use Rattle.readers.specs.Places.{numeral_ahead, num, literal}
 unfoldable pub separates : ℕ → Bool
 separates b = not (is_digit b || is_mark b)
 
-unfoldable pub separator : Placed ℕ
+abbrev pub separator : Placed ℕ
 separator = ahead separates gives fails
 
-unfoldable pub group_after : ℕ → Placed Plain
+abbrev pub group_after : ℕ → Placed Plain
 group_after skip = do
   x ← separator
   n ← num
   only_if (ltb 0 n)
   gives (Plain.Group skip x n)
 
-unfoldable pub group_code : Placed Plain
+abbrev pub group_code : Placed Plain
 group_code = numeral_ahead 3 group_after (group_after 0)
 
 -- `T num` or `T num,num`
-unfoldable pub extract_from : ℕ → Placed Plain
+abbrev pub extract_from : ℕ → Placed Plain
 extract_from start = do
   only_if (ltb 0 start)
   n ← num
   gives (Plain.Extract start n)
 
-unfoldable pub extract_code : Placed Plain
+abbrev pub extract_code : Placed Plain
 extract_code = num >>= λ n. choose_or ((ch ",", extract_from n) ∷ []) (gives (Plain.Extract 1 n))
 
 -- `L`, `L num`, `L num,num`
-unfoldable pub admit_from : ℕ → Placed Plain
+abbrev pub admit_from : ℕ → Placed Plain
 admit_from least = num >>= λ most. gives (Plain.Admit least most)
 
-unfoldable pub length_after : ℕ → Placed Plain
+abbrev pub length_after : ℕ → Placed Plain
 length_after n = choose_or ((ch ",", admit_from n) ∷ []) (gives (Plain.Admit 0 n))
 
-unfoldable pub length_code : Placed Plain
+abbrev pub length_code : Placed Plain
 length_code = numeral_ahead 3 length_after (gives Plain.Measure)
 
 -- `MCA` `MC/A` `MCN` `MC/N` `MCU` `MCL` `MCT`
-unfoldable pub except_code : Placed Plain
+abbrev pub except_code : Placed Plain
 except_code = choose ((ch "A", gives Plain.OtherThanLetters) ∷ (ch "N", gives Plain.OtherThanNumerals) ∷ [])
 
-unfoldable pub character_code : Placed Plain
+abbrev pub character_code : Placed Plain
 character_code =
     choose
     ((ch "A", gives Plain.Letters)
@@ -69,37 +69,37 @@ character_code =
     ∷ [])
 
 -- `{n{m}}`
-unfoldable pub scales : Placed (ℕ × ℕ)
+abbrev pub scales : Placed (ℕ × ℕ)
 scales = digit_ahead (λ n. digit_ahead (λ m. gives (n, m)) (gives (n, n))) (gives (0, 0))
 
 -- "{C, D, E, M or N}"
-unfoldable pub credit_letter : Placed Credit
+abbrev pub credit_letter : Placed (Maybe Credit)
 credit_letter =
     choose_or
-    ((ch "C", gives Credit.Credit)
-    ∷ (ch "D", gives Credit.Debit)
-    ∷ (ch "E", gives Credit.Enclosed)
-    ∷ (ch "M", gives Credit.Trailing)
-    ∷ (ch "N", gives Credit.Suppressed)
+    ((ch "C", gives (Some Credit.Credit))
+    ∷ (ch "D", gives (Some Credit.Debit))
+    ∷ (ch "E", gives (Some Credit.Enclosed))
+    ∷ (ch "M", gives (Some Credit.Trailing))
+    ∷ (ch "N", gives (Some Credit.Suppressed))
     ∷ [])
-    (gives Credit.Absent)
+    (gives None)
 
 -- `(fill num)`
-unfoldable pub fill_byte : Placed ℕ
+abbrev pub fill_byte : Placed ℕ
 fill_byte = choose ((ch "#", gives (ch " ")) ∷ (ch "*", gives (ch "*")) ∷ (ch "%", gives (ch "0")) ∷ [])
 
-unfoldable pub fill_field : ℕ → Placed Fill
+abbrev pub fill_field : ℕ → Placed (Maybe Fill)
 fill_field fill = do
   width ← num
   only_if (within 1 99 width)
   this (ch ")")
-  gives (Fill.Field fill width)
+  gives (Some (record { byte = fill; width = width }))
 
-unfoldable pub fill_width : Placed Fill
+abbrev pub fill_width : Placed (Maybe Fill)
 fill_width = fill_byte >>= fill_field
 
-unfoldable pub fill_part : Placed Fill
-fill_part = choose_or ((ch "(", fill_width) ∷ []) (gives Fill.Absent)
+abbrev pub fill_part : Placed (Maybe Fill)
+fill_part = choose_or ((ch "(", fill_width) ∷ []) (gives None)
 
 -- `ML` or `MR`, then `{n{m}}{Z}{,}{C, D, E, M or N}{$}{(fill num)}`
 unfoldable pub mask_code : Bool → Placed Conversion
@@ -124,15 +124,15 @@ mask_code left = do
       }))
 
 -- `D{n}{s}`
-unfoldable pub date_after : ℕ → Placed Conversion
+abbrev pub date_after : ℕ → Placed Conversion
 date_after n =
-    ahead is_separator (λ s. gives (Conversion.Date n (Separator.Byte s))) (gives (Conversion.Date n Separator.Absent))
+    ahead is_separator (λ s. gives (Conversion.Date n (Some s))) (gives (Conversion.Date n None))
 
-unfoldable pub date_code : Placed Conversion
+abbrev pub date_code : Placed Conversion
 date_code = ahead (within (ch "0") (ch "4")) (λ b. date_after (digit_value b)) (date_after 4)
 
 -- Document 02, L1: `N`, `A` or `X`
-unfoldable pub class_letter : Placed Class
+abbrev pub class_letter : Placed Class
 class_letter = choose ((ch "N", gives Class.Numeric) ∷ (ch "A", gives Class.Alpha) ∷ (ch "X", gives Class.Character) ∷ [])
 
 -- "`nN`, `nA`, `nX`", after n
@@ -147,7 +147,7 @@ unfoldable pub quoted_test : Placed Test
 quoted_test = choose ((ch "'", literal_test (ch "'")) ∷ (ch "\"", literal_test (ch "\"")) ∷ [])
 
 -- "n of 1 to 3 digits"
-unfoldable pub test : Placed Test
+abbrev pub test : Placed Test
 test = numeral_ahead 2 count_test quoted_test
 
 -- Patterns are skimmed and not kept: the size of what the paper reads, and the place after it.

@@ -1,115 +1,114 @@
 // One byte ahead, the numerals, and a literal's closing quote.
 ghost use Rattle.std.specs.Prelude.{◌≡◌, ◌≤◌};
 ghost use Rattle.std.proofs.Math.Option.{some};
-ghost use Rattle.readers.specs.Places.{Peeked, flag, digit, more_digits, numeral, num, quoted};
-ghost use Rattle.readers.specs.Answers.{num_read, quoted_read};
+ghost use Rattle.readers.specs.Places.{Peeked, this, flag, digit, more_digits, numeral, num, quoted};
+ghost use Rattle.readers.specs.Answers.{read};
 
-use crate::{Ahead, Digits, Flag, ReadNum, ReadQuoted};
-use paper::Mark;
+use paper::{Mark, Read, Refusal};
 
 // Past the end stands the segment mark, which no reader takes: so every reader stops there.
-pub fn peek(code: &[u8], at: usize) -> Ahead
-    ensures { Peeked code.now at result.byte result.next }
+#[tactic(auto, unfolding(crate::specs::Places::byte_at, crate::specs::Places::after))]
+pub fn peek(code: &[u8], at: usize) -> Read<u8>
+    ensures { Peeked code.now at result.value result.next }
 {
-    if at < code.len() {
-        Ahead {
-            byte: code[at],
+    match code.get(at) {
+        Some(byte) => Read {
+            value: *byte,
             next: at + 1,
-        }
-    } else {
-        Ahead {
-            byte: Mark::SEGMENT.byte,
-            next: at,
-        }
-    }
-}
-
-pub(crate) fn flag(code: &[u8], at: usize, byte: u8) -> Flag
-    ensures { some (result.on, result.next) ≡ flag byte code.now at }
-{
-    let ahead = peek(code, at);
-    if ahead.byte == byte {
-        Flag {
-            on: true,
-            next: ahead.next,
-        }
-    } else {
-        Flag {
-            on: false,
-            next: at,
-        }
-    }
-}
-
-pub fn digit(code: &[u8], at: usize) -> ReadNum
-    ensures { result ≡ num_read (digit code.now at) }
-{
-    let ahead = peek(code, at);
-    let byte = ahead.byte;
-    match byte {
-        b'0'..=b'9' => ReadNum::Num {
-            value: (byte - b'0') as u64,
-            next: ahead.next,
         },
-        _ => ReadNum::Refused(paper::refusal::NOT_IN_GRAMMAR),
+        None => Read {
+            value: Mark::SEGMENT.byte,
+            next: at,
+        },
+    }
+}
+
+// This byte and no other.
+#[tactic(auto, unfolding(crate::specs::Places::choose_or, crate::specs::Places::this))]
+pub fn this(code: &[u8], at: usize, byte: u8) -> Result<Read<()>, Refusal>
+    ensures { result ≡ read (this byte code.now at) }
+{
+    let ahead = peek(code, at);
+    if ahead.value != byte {
+        return Err(Refusal::NotInGrammar);
+    }
+    Ok(Read {
+        value: (),
+        next: ahead.next,
+    })
+}
+
+// Whether an optional byte stands there.
+#[tactic(auto, unfolding(crate::specs::Places::choose_or, crate::specs::Places::flag))]
+pub(crate) fn flag(code: &[u8], at: usize, byte: u8) -> Read<bool>
+    ensures { some (result.value, result.next) ≡ flag byte code.now at }
+{
+    let ahead = peek(code, at);
+    let value = ahead.value == byte;
+    let next = if value { ahead.next } else { at };
+    Read { value, next }
+}
+
+#[tactic(auto, unfolding(crate::specs::Places::digit, paper::specs::Bytes::is_digit, paper::specs::Bytes::digit_value))]
+pub fn digit(code: &[u8], at: usize) -> Result<Read<u64>, Refusal>
+    ensures { result ≡ read (digit code.now at) }
+{
+    let ahead = peek(code, at);
+    // document 01's form: matches on bytes with ranges
+    match ahead.value {
+        b'0'..=b'9' => Ok(Read {
+            value: u64::from(ahead.value - b'0'),
+            next: ahead.next,
+        }),
+        _ => Err(Refusal::NotInGrammar),
     }
 }
 
 // Up to `most` more digits.
-pub(crate) fn more_digits(code: &[u8], from: usize, first: u64, most: u64) -> Digits
-    requires { (first ≤ 9) × (most ≤ 4) }
-    ensures { some (result.value, result.next) ≡ more_digits most first code.now from }
+pub(crate) fn more_digits(code: &[u8], first: Read<u64>, most: u64) -> Read<u64>
+    requires { (first.value ≤ 9) × (most ≤ 4) }
+    ensures { some (result.value, result.next) ≡ more_digits most first.value code.now first.next }
 {
-    let mut value = first;
-    let mut at = from;
-    let mut left = most;
-    while 0 < left {
-        let ReadNum::Num { value: d, next } = digit(code, at) else {
-            return Digits { value, next: at };
+    let mut number = first;
+    for _ in 0..most {
+        let Ok(d) = digit(code, number.next) else {
+            return number;
         };
-        value = value * 10 + d;
-        at = next;
-        left -= 1;
+        number = Read {
+            value: number.value * 10 + d.value,
+            next: d.next,
+        };
     }
-    Digits { value, next: at }
+    number
 }
 
 // One digit, and up to `most` more.
-pub fn numeral(code: &[u8], at: usize, most: u64) -> ReadNum
+#[tactic(auto, unfolding(crate::specs::Places::numeral))]
+pub fn numeral(code: &[u8], at: usize, most: u64) -> Result<Read<u64>, Refusal>
     requires { most ≤ 4 }
-    ensures { result ≡ num_read (numeral most code.now at) }
+    ensures { result ≡ read (numeral most code.now at) }
 {
-    let read = digit(code, at);
-    let ReadNum::Num { value, next } = read else {
-        return read;
-    };
-    let digits = more_digits(code, next, value, most);
-    ReadNum::Num {
-        value: digits.value,
-        next: digits.next,
-    }
+    let first = digit(code, at)?;
+    Ok(more_digits(code, first, most))
 }
 
 // ""num" is 1 to 4 digits"
-pub(crate) fn num(code: &[u8], at: usize) -> ReadNum
-    ensures { result ≡ num_read (num code.now at) }
+pub(crate) fn num(code: &[u8], at: usize) -> Result<Read<u64>, Refusal>
+    ensures { result ≡ read (num code.now at) }
 {
     numeral(code, at, 3)
 }
 
 // "zero or more bytes in `'` or `"`, without that quote": how many, and the place after the quote
-pub fn quoted(code: &[u8], from: usize, quote: u8) -> ReadQuoted
-    ensures { result ≡ quoted_read (quoted quote code.now from) }
+pub fn quoted(code: &[u8], from: usize, quote: u8) -> Result<Read<usize>, Refusal>
+    ensures { result ≡ read (quoted quote code.now from) }
 {
-    let mut at = from;
-    while at < code.len() {
-        if code[at] == quote {
-            return ReadQuoted::Quoted {
-                len: at - from,
-                next: at + 1,
-            };
-        }
-        at += 1;
-    }
-    ReadQuoted::Refused(paper::refusal::NOT_IN_GRAMMAR)
+    let rest = &code[from.min(code.len())..];
+    let Some(len) = rest.iter().position(|byte| *byte == quote) else {
+        return Err(Refusal::NotInGrammar);
+    };
+    Ok(Read {
+        value: len,
+        next: from + len + 1,
+    })
 }

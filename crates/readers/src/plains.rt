@@ -1,9 +1,10 @@
 // Document 01, "The code grammar": G, T, L and MC.
+#![tactic(auto, unfolding(crate::specs::Places::choose_or))]
+
 ghost use Rattle.std.specs.Prelude.{◌≡◌};
-ghost use Rattle.readers.specs.Answers.{conversion_read};
+ghost use Rattle.readers.specs.Answers.{read};
 ghost use Rattle.readers.specs.Reading.{
   separates,
-  as_plain,
   group_after,
   group_code,
   extract_from,
@@ -16,9 +17,8 @@ ghost use Rattle.readers.specs.Reading.{
 };
 
 use crate::places::{num, peek};
-use crate::{ReadConversion, ReadNum};
-use codes::{Conversion, Plain};
-use paper::Mark;
+use codes::Plain;
+use paper::{Mark, Read, Refusal};
 
 // The marks as bounds of a range of bytes.
 const FIRST_MARK: u8 = Mark::BUFFER.byte;
@@ -26,171 +26,156 @@ const FIRST_MARK: u8 = Mark::BUFFER.byte;
 const LAST_MARK: u8 = Mark::SEGMENT.byte;
 
 // "x any byte not a digit or mark"
+#[tactic(auto, unfolding(crate::specs::Reading::separates, paper::specs::Bytes::is_digit, paper::specs::Sizes::is_mark))]
 fn separates(byte: u8) -> bool
     ensures { result ≡ separates byte }
 {
-    match byte {
-        b'0'..=b'9' | FIRST_MARK..=LAST_MARK => false,
-        _ => true,
-    }
+    // document 01's form: matches on bytes with ranges
+    !matches!(byte, b'0'..=b'9' | FIRST_MARK..=LAST_MARK)
 }
 
 // `x num`, "second num at least 1"
-fn group_after(code: &[u8], at: usize, skip: u64) -> ReadConversion
-    ensures { result ≡ conversion_read (as_plain (group_after skip) code.now at) }
+fn group_after(code: &[u8], at: usize, skip: u64) -> Result<Read<Plain>, Refusal>
+    ensures { result ≡ read (group_after skip code.now at) }
 {
     let ahead = peek(code, at);
-    let separator = ahead.byte;
+    let separator = ahead.value;
     if !separates(separator) {
-        return ReadConversion::Refused(paper::refusal::NOT_IN_GRAMMAR);
+        return Err(Refusal::NotInGrammar);
     }
-    let read = num(code, ahead.next);
-    let ReadNum::Num { value: count, next } = read else {
-        return ReadConversion::Refused(read.refusal());
-    };
-    if count == 0 {
-        return ReadConversion::Refused(paper::refusal::NOT_IN_GRAMMAR);
+    let count = num(code, ahead.next)?;
+    if count.value == 0 {
+        return Err(Refusal::NotInGrammar);
     }
-    ReadConversion::Conversion {
-        conversion: Conversion::Plain(Plain::Group {
+    Ok(Read {
+        value: Plain::Group {
             skip,
             separator,
-            count,
-        }),
-        next,
-    }
+            count: count.value,
+        },
+        next: count.next,
+    })
 }
 
 // `G{num}x num`
-pub(crate) fn group_code(code: &[u8], at: usize) -> ReadConversion
-    ensures { result ≡ conversion_read (as_plain group_code code.now at) }
+pub(crate) fn group_code(code: &[u8], at: usize) -> Result<Read<Plain>, Refusal>
+    ensures { result ≡ read (group_code code.now at) }
 {
-    let ReadNum::Num { value, next } = num(code, at) else {
-        return group_after(code, at, 0);
-    };
-    group_after(code, next, value)
+    let skip = num(code, at).unwrap_or(Read { value: 0, next: at });
+    group_after(code, skip.next, skip.value)
 }
 
 // `num,num`, "a start at least 1"
-fn extract_from(code: &[u8], at: usize, start: u64) -> ReadConversion
-    ensures { result ≡ conversion_read (as_plain (extract_from start) code.now at) }
+fn extract_from(code: &[u8], at: usize, start: u64) -> Result<Read<Plain>, Refusal>
+    ensures { result ≡ read (extract_from start code.now at) }
 {
     if start == 0 {
-        return ReadConversion::Refused(paper::refusal::NOT_IN_GRAMMAR);
+        return Err(Refusal::NotInGrammar);
     }
-    let read = num(code, at);
-    let ReadNum::Num { value: count, next } = read else {
-        return ReadConversion::Refused(read.refusal());
-    };
-    ReadConversion::Conversion {
-        conversion: Conversion::Plain(Plain::Extract { start, count }),
-        next,
-    }
+    let count = num(code, at)?;
+    Ok(Read {
+        value: Plain::Extract {
+            start,
+            count: count.value,
+        },
+        next: count.next,
+    })
 }
 
 // `T num` or `T num,num`
-pub(crate) fn extract_code(code: &[u8], at: usize) -> ReadConversion
-    ensures { result ≡ conversion_read (as_plain extract_code code.now at) }
+pub(crate) fn extract_code(code: &[u8], at: usize) -> Result<Read<Plain>, Refusal>
+    ensures { result ≡ read (extract_code code.now at) }
 {
-    let read = num(code, at);
-    let ReadNum::Num { value, next } = read else {
-        return ReadConversion::Refused(read.refusal());
-    };
-    let ahead = peek(code, next);
-    let byte = ahead.byte;
-    match byte {
-        b',' => extract_from(code, ahead.next, value),
-        _ => ReadConversion::Conversion {
-            conversion: Conversion::Plain(Plain::Extract {
-                start: 1,
-                count: value,
-            }),
-            next,
-        },
+    let first = num(code, at)?;
+    let ahead = peek(code, first.next);
+    if ahead.value == b',' {
+        return extract_from(code, ahead.next, first.value);
     }
+    Ok(Read {
+        value: Plain::Extract {
+            start: 1,
+            count: first.value,
+        },
+        next: first.next,
+    })
 }
 
 // `num,num`
-fn admit_from(code: &[u8], at: usize, least: u64) -> ReadConversion
-    ensures { result ≡ conversion_read (as_plain (admit_from least) code.now at) }
+fn admit_from(code: &[u8], at: usize, least: u64) -> Result<Read<Plain>, Refusal>
+    ensures { result ≡ read (admit_from least code.now at) }
 {
-    let read = num(code, at);
-    let ReadNum::Num { value: most, next } = read else {
-        return ReadConversion::Refused(read.refusal());
-    };
-    ReadConversion::Conversion {
-        conversion: Conversion::Plain(Plain::Admit { least, most }),
-        next,
-    }
+    let most = num(code, at)?;
+    Ok(Read {
+        value: Plain::Admit {
+            least,
+            most: most.value,
+        },
+        next: most.next,
+    })
 }
 
 // `L num` or `L num,num`
-fn length_after(code: &[u8], at: usize, value: u64) -> ReadConversion
-    ensures { result ≡ conversion_read (as_plain (length_after value) code.now at) }
+fn length_after(code: &[u8], at: usize, first: u64) -> Result<Read<Plain>, Refusal>
+    ensures { result ≡ read (length_after first code.now at) }
 {
     let ahead = peek(code, at);
-    let byte = ahead.byte;
-    match byte {
-        b',' => admit_from(code, ahead.next, value),
-        _ => ReadConversion::Conversion {
-            conversion: Conversion::Plain(Plain::Admit {
-                least: 0,
-                most: value,
-            }),
-            next: at,
-        },
+    if ahead.value == b',' {
+        return admit_from(code, ahead.next, first);
     }
+    Ok(Read {
+        value: Plain::Admit {
+            least: 0,
+            most: first,
+        },
+        next: at,
+    })
 }
 
 // `L`, `L num`, `L num,num`
-pub(crate) fn length_code(code: &[u8], at: usize) -> ReadConversion
-    ensures { result ≡ conversion_read (as_plain length_code code.now at) }
+pub(crate) fn length_code(code: &[u8], at: usize) -> Result<Read<Plain>, Refusal>
+    ensures { result ≡ read (length_code code.now at) }
 {
-    let ReadNum::Num { value, next } = num(code, at) else {
-        return ReadConversion::Conversion {
-            conversion: Conversion::Plain(Plain::Measure),
+    let Ok(first) = num(code, at) else {
+        return Ok(Read {
+            value: Plain::Measure,
             next: at,
-        };
+        });
     };
-    length_after(code, next, value)
-}
-
-// A plain code of one letter more.
-fn lettered(plain: Plain, next: usize) -> ReadConversion
-    ensures { result ≡ ReadConversion.Conversion (Conversion.Plain plain) next }
-{
-    ReadConversion::Conversion {
-        conversion: Conversion::Plain(plain),
-        next,
-    }
+    length_after(code, first.next, first.value)
 }
 
 // `MC/A` `MC/N`
-fn except_code(code: &[u8], at: usize) -> ReadConversion
-    ensures { result ≡ conversion_read (as_plain except_code code.now at) }
+fn except_code(code: &[u8], at: usize) -> Result<Read<Plain>, Refusal>
+    ensures { result ≡ read (except_code code.now at) }
 {
     let ahead = peek(code, at);
-    let byte = ahead.byte;
-    match byte {
-        b'A' => lettered(Plain::OtherThanLetters, ahead.next),
-        b'N' => lettered(Plain::OtherThanNumerals, ahead.next),
-        _ => ReadConversion::Refused(paper::refusal::NOT_IN_GRAMMAR),
-    }
+    let value = match ahead.value {
+        b'A' => Plain::OtherThanLetters,
+        b'N' => Plain::OtherThanNumerals,
+        _ => return Err(Refusal::NotInGrammar),
+    };
+    Ok(Read {
+        value,
+        next: ahead.next,
+    })
 }
 
 // `MCA` `MC/A` `MCN` `MC/N` `MCU` `MCL` `MCT`
-pub(crate) fn character_code(code: &[u8], at: usize) -> ReadConversion
-    ensures { result ≡ conversion_read (as_plain character_code code.now at) }
+pub(crate) fn character_code(code: &[u8], at: usize) -> Result<Read<Plain>, Refusal>
+    ensures { result ≡ read (character_code code.now at) }
 {
     let ahead = peek(code, at);
-    let byte = ahead.byte;
-    match byte {
-        b'A' => lettered(Plain::Letters, ahead.next),
-        b'N' => lettered(Plain::Numerals, ahead.next),
-        b'/' => except_code(code, ahead.next),
-        b'U' => lettered(Plain::Upper, ahead.next),
-        b'L' => lettered(Plain::Lower, ahead.next),
-        b'T' => lettered(Plain::Title, ahead.next),
-        _ => ReadConversion::Refused(paper::refusal::NOT_IN_GRAMMAR),
-    }
+    let value = match ahead.value {
+        b'A' => Plain::Letters,
+        b'N' => Plain::Numerals,
+        b'/' => return except_code(code, ahead.next),
+        b'U' => Plain::Upper,
+        b'L' => Plain::Lower,
+        b'T' => Plain::Title,
+        _ => return Err(Refusal::NotInGrammar),
+    };
+    Ok(Read {
+        value,
+        next: ahead.next,
+    })
 }

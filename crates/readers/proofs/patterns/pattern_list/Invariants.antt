@@ -7,9 +7,9 @@ use Rattle.readers.specs.Reading.{skimmed}
 use Rattle.readers.proofs.Skimming.{raised}
 use Rattle.readers.proofs.patterns.pattern_list.Given as goal
 
-abbrev pub invariant-loop-value : goal.invariant-loop-value
-invariant-loop-value l =
+abbrev pub invariant-loop-tests : goal.invariant-loop-tests
+invariant-loop-tests l =
     (l.total ≤ l.at) × (raised l.total (skimmed tests_in l.code (paper.pattern_list (drop l.at l.code))) ≡ skimmed tests_in l.code (paper.pattern_list (drop l.from l.code)))
 
-abbrev pub decreases-loop-value : goal.decreases-loop-value
-decreases-loop-value l = length l.code - l.at
+abbrev pub decreases-loop-tests : goal.decreases-loop-tests
+decreases-loop-tests l = length l.code - l.at

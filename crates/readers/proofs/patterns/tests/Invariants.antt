@@ -6,9 +6,9 @@ use Rattle.readers.specs.Reading.{skimmed}
 use Rattle.readers.proofs.Skimming.{raised}
 use Rattle.readers.proofs.patterns.tests.Given as goal
 
-abbrev pub invariant-loop-next : goal.invariant-loop-next
-invariant-loop-next l =
+abbrev pub invariant-loop-at : goal.invariant-loop-at
+invariant-loop-at l =
     (l.count ≤ l.at) × (raised l.count (skimmed length l.code (paper.tests (drop l.at l.code))) ≡ skimmed length l.code (paper.tests (drop l.from l.code)))
 
-abbrev pub decreases-loop-next : goal.decreases-loop-next
-decreases-loop-next l = length l.code - l.at
+abbrev pub decreases-loop-at : goal.decreases-loop-at
+decreases-loop-at l = length l.code - l.at

@@ -1,27 +1,30 @@
--- `places::quoted` meets its contract: from place to place the quote to be found stays the same.
-use mathlib.Core.Path.{refl, sym, ◌∙◌}
-use native.Mathlib.Omega.{arith}
-use Rattle.readers.proofs.Quotes.{closing_here, closing_on, closing_none, quoted_closed, quoted_open}
-use Rattle.readers.proofs.Answering.{quotes, read_none, read_some}
+-- `places::quoted` meets its contract: what `position` finds is the paper's closing quote.
+use mathlib.Core.Path.{◌≡◌, ◌∙◌}
+use lib.Dec.{eqb}
+use lib.ListN.{drop}
+use Rattle.std.specs.List.{position_from}
+use Rattle.std.proofs.Common.{rules, tests}
+use Rattle.std.proofs.lemmas.List.{drop_min, take_rest}
+use Rattle.std.proofs.lemmas.Iterator.{YieldsList-from_slice}
+use Rattle.std.proofs.lemmas.Iterator.Adapters.{position_from-zero}
+use Rattle.std.proofs.lemmas.Iterator.Search.{position_from_yields_List}
+use Rattle.readers.proofs.Quotes.{found_quote}
 use Rattle.readers.proofs.places.quoted.Goals as goal
 
-pub loop-at-init : goal.loop-at-init
-loop-at-init c = (omega arith, refl)
-
-pub returns-then-code-at : goal.returns-then-code-at
-returns-then-code-at c =
+pub returns-in_default : goal.returns-in_default
+returns-in_default c =
     let a = c.args in
-    let l = c.loop-at in
-    read_some quotes (quoted_closed _ _ _ _ (sym l.invariant.1 ∙ closing_here a.code.now l.at a.quote c.loop-at-test.true c.if-code-at.true))
-
-pub loop-at-preserved : goal.loop-at-preserved
-loop-at-preserved c =
-    let a = c.args in
-    let l = c.loop-at in
-    (omega arith, sym (closing_on a.code.now l.at a.quote c.loop-at-test.true c.if-code-at.false) ∙ l.invariant.1)
+    let behind : c.iter.result.rest.now ≡ drop a.from a.code.now = c.iter.ensures.rest ∙ take_rest a.code.now c.min.result ∙ rw c.min.ensures (drop_min a.from a.code.now) in
+    let first : c.position.result ≡ position_from (λ b. eqb b a.quote) 0 (drop a.from a.code.now) =
+    position_from_yields_List (λ b. eqb b a.quote) _ _ c.position.result c.position.ensures.ran (YieldsList-from_slice {s = c.iter.result} (drop a.from a.code.now) behind) (λ x b q k. search (rules, tests))
+    ∙ position_from-zero (λ b. eqb b a.quote) (drop a.from a.code.now) in
+    rw (found_quote a.quote a.code.now a.from c.position.result first, c.in_default.is)
 
 pub returns : goal.returns
 returns c =
     let a = c.args in
-    let l = c.loop-at in
-    read_none quotes (quoted_open _ _ _ (sym l.invariant.1 ∙ closing_none a.code.now l.at a.quote c.loop-at-test.false))
+    let behind : c.iter.result.rest.now ≡ drop a.from a.code.now = c.iter.ensures.rest ∙ take_rest a.code.now c.min.result ∙ rw c.min.ensures (drop_min a.from a.code.now) in
+    let first : c.position.result ≡ position_from (λ b. eqb b a.quote) 0 (drop a.from a.code.now) =
+    position_from_yields_List (λ b. eqb b a.quote) _ _ c.position.result c.position.ensures.ran (YieldsList-from_slice {s = c.iter.result} (drop a.from a.code.now) behind) (λ x b q k. search (rules, tests))
+    ∙ position_from-zero (λ b. eqb b a.quote) (drop a.from a.code.now) in
+    rw (found_quote a.quote a.code.now a.from c.position.result first, c.in-Some.is)
