@@ -1,10 +1,14 @@
 -- The operands that F has too: what F's reader of elms ate, as it is spelt. Assumes nothing.
-use Prim.Native.Nat.{ℕ, suc, ◌+◌, ◌-◌, ◌≤◌, ◌<◌}
+use Prim.Native.Nat.{ℕ, suc, ◌-◌, ◌≤◌, ◌<◌}
 use native.Mathlib.Omega.{arith}
 use mathlib.Core.Path.{◌≡◌, refl, sym, ◌∙◌}
 use mathlib.Core.Bool.{true, false, true≢false}
 use mathlib.Core.List.{[], ◌∷◌}
-use mathlib.Core.Option.{none, some}
+use mathlib.Core.Option.{Option, none, some}
+use Rattle.std.specs.Prelude.{Some, None}
+use Rattle.std.specs.Result.{result_ok}
+use Rattle.paper.specs.declared.Read.{Read}
+use Rattle.readers.specs.Answers.{read}
 use lib.ListN.{length, take, drop, length-drop}
 use Rattle.paper.specs.Bytes.{Bytes, ch}
 use Rattle.paper.specs.Grammar as paper
@@ -14,7 +18,7 @@ use Rattle.codes.specs.declared.Operand as operands
 use Rattle.grammar.specs.Reading as place
 use Rattle.grammar.proofs.AgreementLines.{elm_reads}
 use Rattle.readers.proofs.Agreement.{none_by, some_by}
-use Rattle.lent.specs.Over.{over}
+use Rattle.lent.specs.Over as lent
 use Rattle.lent.proofs.Laws.{length_from}
 use Rattle.algebra.specs.Expressions.{Operand, spelt, operand_elms}
 use Rattle.algebra.specs.Grammar.{as_operand, fetch}
@@ -45,6 +49,16 @@ unfetched_as s text rest code.Elm.Exchange h = refl
 unfetched_as s text rest code.Elm.Duplicate h = refl
 unfetched_as s text rest (code.Elm.Convert c) h = refl
 
+-- what F's reader of elms answers, if it read one
+module _ {A : Type 0} where
+  pub ok_read : (o : Option (A × ℕ)) {r : Read A} → Some r ≡ result_ok (read o) → o ≡ some (r.value, r.next)
+  ok_read none e = let z : ◌≡◌ {A = ℕ} 0 1 = cc in absurd (omega arith)
+  ok_read (some x) {r = r} e = let q : record { value = x.0; next = x.1 } ≡ r = cc in rw (← q) refl
+
+  pub ok_none : (o : Option (A × ℕ)) → None ≡ result_ok (read o) → o ≡ none
+  ok_none none e = refl
+  ok_none (some x) e = let z : ◌≡◌ {A = ℕ} 0 1 = cc in absurd (omega arith)
+
 -- an operand that F has too, read by its elm
 module _ (s : Bytes) (at : ℕ) (h : at ≤ length s) where
   pub fetch_none : place.elm s at ≡ none → fetch (drop at s) ≡ none
@@ -70,9 +84,9 @@ module _ (s : Bytes) (at : ℕ) (h : at ≤ length s) where
     pub fetch_other : fetches e ≡ false → fetch (drop at s) ≡ none
     fetch_other g = fetch_as ∙ unfetched_as s _ _ e g
 
-    pub fetch_laid : {t u : Bytes} {l end : ℕ} → fetches e ≡ true → end ≡ l + 1 + length (take (n - at) (drop at s))
-        → u ≡ over t l (ch ";" ∷ take (n - at) (drop at s)) → Laid operand_elms s at t l (fetch (drop at s)) n end u
-    fetch_laid {t} {u} {l} {end} g i j =
+    pub fetch_laid : {t u : Bytes} {l end : ℕ} → fetches e ≡ true → lent.Laid (ch ";" ∷ take (n - at) (drop at s)) t end u l
+        → Laid operand_elms s at t l (fetch (drop at s)) n end u
+    fetch_laid {t} {u} {l} {end} g i =
         let text : Bytes = take (n - at) (drop at s) in
         let x = fetched_as s text (drop n s) e g in
         record {
@@ -80,6 +94,6 @@ module _ (s : Bytes) (at : ℕ) (h : at ≤ length s) where
           reads = fetch_as ∙ x.1;
           forward = omega (arith, reads.1);
           inside = reads.2;
-          few = omega (arith, i, reads.1, length_from s at (n - at) (omega (arith, reads.1, reads.2)));
-          written = rw x.2 (elm_written (spelt text (elm_of s e)) refl i j);
+          few = omega (arith, i.place, reads.1, length_from s at (n - at) (omega (arith, reads.1, reads.2)));
+          written = rw x.2 (elm_written (spelt text (elm_of s e)) refl i);
         }

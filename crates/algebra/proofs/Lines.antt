@@ -11,7 +11,7 @@ use Rattle.paper.specs.Bytes.{Bytes, ch, bytes}
 use Rattle.paper.specs.Numbers.{Binary}
 use Rattle.paper.specs.Codes.{Elm}
 use Rattle.paper.specs.Grammar as paper
-use Rattle.lent.specs.Over.{over}
+use Rattle.lent.specs.Over as lent
 use Rattle.readers.specs.Places.{Peeked}
 use Rattle.algebra.specs.Expressions.{
   Operator,
@@ -29,10 +29,10 @@ use Rattle.algebra.specs.Expressions.{
 }
 use Rattle.algebra.specs.Grammar.{operator, fetch, up_to, pair, enclosed, remainder_of, base, bracket, brackets, operand, operations, expression}
 use Rattle.algebra.specs.Laying.{Laid, Lays, pair_elms, bracket_elms, operation_elms, Signed}
-use Rattle.algebra.specs.declared.Shown.{Shown}
+use Rattle.std.specs.Prelude.{Option as Maybe}
 use Rattle.algebra.proofs.Ahead.{hit, miss}
-use Rattle.algebra.proofs.Laying.{elm_written, laid_elm, lays_as, lays_from, lays_then}
-use Rattle.algebra.proofs.Going.{Going, follow_gives, follow_same, going_on, going_starts}
+use Rattle.algebra.proofs.Laying.{elm_written, laid_elm, laid_as, lays_as, lays_from, lays_then}
+use Rattle.algebra.proofs.Going.{Going, follow_gives, follow_same, going_on, going_none, going_starts}
 
 module _ (inside : paper.Reader Expression) {s t : Bytes} {at l : ℕ} where
   -- the byte behind an expression
@@ -131,9 +131,9 @@ unfolding expression operand base fetch paper.elm paper.operator_elm paper.choos
 nothing_left zero = refl
 nothing_left (suc depth) = refl
 
-pub expression_lays : {s t u : Bytes} {at l : ℕ} {r : Shown}
-    → ((depth : ℕ) → length s ≤ at + suc depth → Lays elms_in s at t l (expression (suc depth) (drop at s)) r u)
-    → (depth : ℕ) → length s ≤ at + depth → Lays elms_in s at t l (expression depth (drop at s)) r u
+pub expression_lays : {s t u : Bytes} {at l k : ℕ} {r : Maybe ℕ}
+    → ((depth : ℕ) → length s ≤ at + suc depth → Lays elms_in s at t l (expression (suc depth) (drop at s)) r u k)
+    → (depth : ℕ) → length s ≤ at + depth → Lays elms_in s at t l (expression depth (drop at s)) r u k
 expression_lays {s} {at = at} f zero h =
     let none_left : length s ≤ at = omega arith in
     let e : drop at s ≡ [] = drop_of_length-le s none_left in
@@ -142,81 +142,94 @@ expression_lays f (suc depth) h = f depth h
 
 -- Each line of the grammar, as the code lays it.
 module _ (inside : paper.Reader Expression) {s t u : Bytes} {at l : ℕ} where
-  pub base_by_parenthesis : {b n : ℕ} {r : Shown} → Peeked s at b n → b ≡ ch "(" → Lays elms_in s n t l (up_to inside (ch ")") (drop n s)) r u
-      → Lays operand_elms s at t l (base inside (drop at s)) r u
+  pub base_by_parenthesis : {b n k : ℕ} {r : Maybe ℕ} → Peeked s at b n → b ≡ ch "(" → Lays elms_in s n t l (up_to inside (ch ")") (drop n s)) r u k
+      → Lays operand_elms s at t l (base inside (drop at s)) r u k
   unfolding operand_elms
   base_by_parenthesis p e x =
       lays_from (lays_as elms_in operand_elms parenthesised (λ y. refl) x) (omega (arith, (hit p e (lit< tt)).1)) (base_enclosed inside p e)
 
-  pub base_by_remainder : {b n : ℕ} {r : Shown} → Peeked s at b n → b ≡ ch "R" → Lays operand_elms s n t l (remainder_of inside (drop n s)) r u
-      → Lays operand_elms s at t l (base inside (drop at s)) r u
+  pub base_by_remainder : {b n k : ℕ} {r : Maybe ℕ} → Peeked s at b n → b ≡ ch "R" → Lays operand_elms s n t l (remainder_of inside (drop n s)) r u k
+      → Lays operand_elms s at t l (base inside (drop at s)) r u k
   base_by_remainder p e x = lays_from x (omega (arith, (hit p e (lit< tt)).1)) (base_remainder inside p e)
 
-  pub pair_lays : (c : ℕ) {w : Bytes} {n m : ℕ} {r : Shown} → Laid elms_in s at t l (up_to inside (ch ",") (drop at s)) n m u → l ≤ length t
-      → Lays elms_in s n u m (up_to inside c (drop n s)) r w → Lays pair_elms s at t l (pair inside c (drop at s)) r w
+  pub pair_lays : (c : ℕ) {w : Bytes} {n m k : ℕ} {r : Maybe ℕ} → Laid elms_in s at t l (up_to inside (ch ",") (drop at s)) n m u → l ≤ length t
+      → Lays elms_in s n u m (up_to inside c (drop n s)) r w k → Lays pair_elms s at t l (pair inside c (drop at s)) r w k
   pair_lays c x h y =
       lays_from (lays_then elms_in elms_in pair_elms x h (omega arith) (λ e. (x.thing, e)) (λ e. refl) y) (omega arith)
       (pair_then inside c _ _ x.thing x.reads)
 
   pub remainder_lays : {w : Bytes} {b n m n' end : ℕ} → Peeked s at b n → b ≡ ch "(" → (x : Laid pair_elms s n t l (pair inside (ch ")") (drop n s)) n' m u)
-      → l ≤ length t → end ≡ m + 2 → w ≡ over u m (ch ";" ∷ ch "R" ∷ []) → Laid operand_elms s at t l (remainder_of inside (drop at s)) n' end w
+      → l ≤ length t → lent.Laid (ch ";" ∷ ch "R" ∷ []) u end w m → Laid operand_elms s at t l (remainder_of inside (drop at s)) n' end w
   unfolding operand_elms bytes
-  remainder_lays {w} {n = n} {m} {n'} {end} p e x h f g =
+  remainder_lays {w} {n = n} {m} {n'} {end} p e x h g =
       let k : n ≡ suc at = (hit p e (lit< tt)).1 in
       rw (remainder_pair inside p e)
-      (laid_elm pair_elms operand_elms x (spelt (bytes "R") (Elm.binary Binary.rest)) h (elm_written (spelt (bytes "R") (Elm.binary Binary.rest)) refl
-      (omega arith) g)
-      (omega arith) (omega (arith, x.few)) (λ y. remainder y.0 y.1) refl)
+      (laid_elm pair_elms operand_elms x (spelt (bytes "R") (Elm.binary Binary.rest)) h (elm_written (spelt (bytes "R") (Elm.binary Binary.rest)) refl g)
+      (omega arith) (omega (arith, x.few, g.place)) (λ y. remainder y.0 y.1) refl)
 
   pub bracket_lays : {w : Bytes} {n m end from : ℕ} → from < at → (x : Laid pair_elms s at t l (pair inside (ch "]") (drop at s)) n m u)
-      → l ≤ length t → end ≡ m + 3 → w ≡ over u m (ch ";" ∷ ch "[" ∷ ch "]" ∷ []) → Laid bracket_elms s from t l (pair inside (ch "]") (drop at s)) n end w
+      → l ≤ length t → lent.Laid (ch ";" ∷ ch "[" ∷ ch "]" ∷ []) u end w m → Laid bracket_elms s from t l (pair inside (ch "]") (drop at s)) n end w
   unfolding bytes
-  bracket_lays {w} {n} {m} {end} {from} i x h f g =
+  bracket_lays {w} {n} {m} {end} {from} i x h g =
       rw (sym (follow_same (pair inside (ch "]") (drop at s))))
-      (laid_elm pair_elms bracket_elms x (spelt (bytes "[]") Elm.substring) h (elm_written (spelt (bytes "[]") Elm.substring) refl (omega arith) g)
-      (omega arith) (omega (arith, x.few)) (λ y. y) refl)
+      (laid_elm pair_elms bracket_elms x (spelt (bytes "[]") Elm.substring) h (elm_written (spelt (bytes "[]") Elm.substring) refl g)
+      (omega arith) (omega (arith, x.few, g.place)) (λ y. y) refl)
 
   pub operation_lays : {w : Bytes} {n m end from byte : ℕ} (o : Operator) → o.in_F ≡ byte ∷ [] → from < at
       → Laid operand_elms s at t l (operand inside (drop at s)) n m u
-      → l ≤ length t → end ≡ m + 2 → w ≡ over u m (ch ";" ∷ byte ∷ []) → Laid (operation_elms o) s from t l (operand inside (drop at s)) n end w
-  operation_lays {w} {n} {m} {end} {from} o e i x h f g =
+      → l ≤ length t → lent.Laid (ch ";" ∷ byte ∷ []) u end w m → Laid (operation_elms o) s from t l (operand inside (drop at s)) n end w
+  operation_lays {w} {n} {m} {end} {from} o e i x h g =
       rw (sym (follow_same (operand inside (drop at s))))
-      (laid_elm operand_elms (operation_elms o) x (spelt o.in_F (Elm.binary o.does)) h (elm_written (spelt o.in_F (Elm.binary o.does)) e
-      (omega arith) g)
-      (omega arith) (omega (arith, x.few)) (λ y. y) refl)
+      (laid_elm operand_elms (operation_elms o) x (spelt o.in_F (Elm.binary o.does)) h (elm_written (spelt o.in_F (Elm.binary o.does)) e g)
+      (omega arith) (omega (arith, x.few, g.place)) (λ y. y) refl)
 
-  pub operand_going : {r : Shown} → Lays operand_elms s at t l (base inside (drop at s)) r u
-      → Going operand_elms s at t l (operand inside (drop at s)) (brackets inside) r u
+  pub operand_going : {n m : ℕ} → Laid operand_elms s at t l (base inside (drop at s)) n m u
+      → Going operand_elms s at t l (operand inside (drop at s)) (brackets inside) n m u
   operand_going x = going_starts (brackets inside) x (operand_starts inside (drop at s))
 
-  -- one `[y,z]` more
-  pub operand_on : {w : Bytes} {whole : Option (Operand × Bytes)} {b n m n' : ℕ} {r r' : Shown} → l ≤ length t
-      → Going operand_elms s at t l whole (brackets inside) r u
-      → r ≡ Shown.Upto n m → Peeked s n b n' → b ≡ ch "[" → Lays bracket_elms s n u m (pair inside (ch "]") (drop n' s)) r' w
-      → Going operand_elms s at t l whole (brackets inside) r' w
-  unfolding operand_elms
-  operand_on h g e p f x =
-      going_on (brackets inside) bracket_elms h g e (hit p f (lit< tt)).2 x (λ y z. substring y z.0 z.1)
-      (λ y z. ap (λ (es : List Spelt). es ++ spelt (bytes "[]") Elm.substring ∷ []) (append_assoc (operand_elms y) (elms_in z.0) (elms_in z.1))
-      ∙ append_assoc (operand_elms y) (elms_in z.0 ++ elms_in z.1) _)
-      (brackets_step inside p f)
+  module _ {whole : Option (Operand × Bytes)} {n m b n' : ℕ} (c : Going operand_elms s at t l whole (brackets inside) n m u) (p : Peeked s n b n')
+      (f : b ≡ ch "[") where
+    -- one `[y,z]` more, or none that is read
+    pub operand_on : {w : Bytes} {k end : ℕ} → l ≤ length t → Laid bracket_elms s n u m (pair inside (ch "]") (drop n' s)) k end w
+        → Going operand_elms s at t l whole (brackets inside) k end w
+    unfolding operand_elms
+    operand_on h x =
+        going_on (brackets inside) c (hit p f (lit< tt)).2 (λ y z. substring y z.0 z.1) (brackets_step inside p f) bracket_elms h x
+        (λ y z. ap (λ (es : List Spelt). es ++ spelt (bytes "[]") Elm.substring ∷ []) (append_assoc (operand_elms y) (elms_in z.0) (elms_in z.1))
+        ∙ append_assoc (operand_elms y) (elms_in z.0 ++ elms_in z.1) _)
 
-  -- one operator and operand more
-  pub expression_on : {w : Bytes} {whole : Option (Expression × Bytes)} {n m n' byte : ℕ} {r r' : Shown} → l ≤ length t
-      → Going elms_in s at t l whole (operations inside) r u → r ≡ Shown.Upto n m → (o : Signed s n (operator (drop n s)) byte n')
-      → Lays (operation_elms o.thing) s n u m (operand inside (drop n' s)) r' w → Going elms_in s at t l whole (operations inside) r' w
-  unfolding elms_in
-  expression_on {n = n} h g e o x =
-      going_on (operations inside) (operation_elms o.thing) h g e (omega (arith, o.forward, o.inside)) x (λ y z. joined y o.thing z)
-      (λ y z. append_assoc (elms_in y) (operand_elms z) _)
-      (operations_step inside (drop n s) _ o.thing o.reads)
+    pub operand_ends : pair inside (ch "]") (drop n' s) ≡ none → whole ≡ none
+    operand_ends = going_none (brackets inside) c (hit p f (lit< tt)).2 (λ y z. substring y z.0 z.1) (brackets_step inside p f)
 
-pub expression_going : (depth : ℕ) {s t u : Bytes} {at l : ℕ} {r : Shown} → Lays operand_elms s at t l (operand (expression depth) (drop at s)) r u
-    → Going elms_in s at t l (expression (suc depth) (drop at s)) (operations (expression depth)) r u
+  module _ {whole : Option (Expression × Bytes)} {n m n' byte : ℕ} (c : Going elms_in s at t l whole (operations inside) n m u)
+      (o : Signed s n (operator (drop n s)) byte n') where
+    -- one operator and operand more, or none that is read
+    pub expression_on : {w : Bytes} {k end : ℕ} → l ≤ length t → Laid (operation_elms o.thing) s n u m (operand inside (drop n' s)) k end w
+        → Going elms_in s at t l whole (operations inside) k end w
+    unfolding elms_in
+    expression_on h x =
+        going_on (operations inside) c (omega (arith, o.forward, o.inside)) (λ y z. joined y o.thing z)
+        (operations_step inside (drop n s) _ o.thing o.reads) (operation_elms o.thing) h x
+        (λ y z. append_assoc (elms_in y) (operand_elms z) _)
+
+    pub expression_ends : operand inside (drop n' s) ≡ none → whole ≡ none
+    expression_ends =
+        going_none (operations inside) c (omega (arith, o.forward, o.inside)) (λ y z. joined y o.thing z)
+        (operations_step inside (drop n s) _ o.thing o.reads)
+
+pub expression_going : (depth : ℕ) {s t u : Bytes} {at l n m : ℕ} → Laid operand_elms s at t l (operand (expression depth) (drop at s)) n m u
+    → Going elms_in s at t l (expression (suc depth) (drop at s)) (operations (expression depth)) n m u
 unfolding elms_in
 expression_going depth {s} {at = at} x =
-    going_starts (operations (expression depth)) (lays_as operand_elms elms_in alone (λ y. refl) x) (expression_starts depth (drop at s))
+    going_starts (operations (expression depth)) (laid_as operand_elms elms_in alone (λ y. refl) x) (expression_starts depth (drop at s))
 
 pub remainder_none : (inside : paper.Reader Expression) {s : Bytes} {at b n : ℕ} → Peeked s at b n → b ≡ ch "(" → pair inside (ch ")") (drop n s) ≡ none
     → remainder_of inside (drop at s) ≡ none
 remainder_none inside p e f = remainder_pair inside p e ∙ rw f
+
+-- where no operand is read, no expression is
+pub operand_none : (inside : paper.Reader Expression) (bs : Bytes) → base inside bs ≡ none → operand inside bs ≡ none
+operand_none inside bs e = operand_starts inside bs ∙ rw e
+
+pub expression_none : (depth : ℕ) (bs : Bytes) → operand (expression depth) bs ≡ none → expression (suc depth) bs ≡ none
+expression_none depth bs e = expression_starts depth bs ∙ rw e

@@ -15,20 +15,22 @@ use Rattle.readers.specs.Places.{Peeked, byte_at, after}
 use Rattle.algebra.specs.Expressions.{Operator}
 use Rattle.algebra.specs.Grammar.{operator}
 use Rattle.algebra.specs.Laying.{Signed, Signs, signed, missing, ordered}
-use Rattle.algebra.specs.declared.ReadOperator.{ReadOperator}
+use Rattle.std.specs.Prelude.{Some, None}
+use Rattle.std.specs.Prelude.{Option as Maybe}
+use Rattle.paper.specs.declared.Read.{Read}
 use Rattle.algebra.proofs.Ahead.{hit, miss}
 
-pub ordered_yes : {s : Bytes} {at b n : ℕ} (x y : ℕ) → Peeked s at b n → b ≡ ch "=" → ReadOperator.Operator x n ≡ ordered s at x y
+pub ordered_yes : {s : Bytes} {at b n : ℕ} (x y : ℕ) → Peeked s at b n → b ≡ ch "=" → record { value = x; next = n } ≡ ordered s at x y
 unfolding ordered
 ordered_yes {s} {at} x y p e = rw (eq-eqb (byte_at s at) (ch "=") (sym p.stands ∙ e), p.leads)
 
-pub ordered_no : {s : Bytes} {at b n : ℕ} (x y : ℕ) → Peeked s at b n → (b ≡ ch "=" → ⊥) → ReadOperator.Operator y at ≡ ordered s at x y
+pub ordered_no : {s : Bytes} {at b n : ℕ} (x y : ℕ) → Peeked s at b n → (b ≡ ch "=" → ⊥) → record { value = y; next = at } ≡ ordered s at x y
 unfolding ordered
 ordered_no {s} {at} x y p f = rw (ne_eqb (byte_at s at) (ch "=") (λ z. f (p.stands ∙ z)))
 
 -- an operator of one byte, and one with a `=` behind it
 pub signs_one : {s : Bytes} {at b n c : ℕ} (o : Operator) → Peeked s at b n → b ≡ c → c < 255 → o.in_F ≡ c ∷ []
-    → operator (c ∷ drop n s) ≡ some (o, drop n s) → Signs s at (operator (drop at s)) (ReadOperator.Operator b n)
+    → operator (c ∷ drop n s) ≡ some (o, drop n s) → Signs s at (operator (drop at s)) (Some (record { value = b; next = n }))
 signs_one {s} {at} {b} {n} o p e h f g =
     let w = hit p e h in
     let r : Signed s at (operator (drop at s)) b n =
@@ -67,24 +69,21 @@ module _ {s : Bytes} {at b n c : ℕ} (o q : Operator) (p : Peeked s at b n) (e 
         inside = omega (arith, w.1, w.2);
       }
 
-  pub signs_ordered : {x y : ℕ} → o.in_F ≡ x ∷ [] → q.in_F ≡ y ∷ [] → Signs s at (operator (drop at s)) (ordered s n x y)
+  pub signs_ordered : {x y : ℕ} → o.in_F ≡ x ∷ [] → q.in_F ≡ y ∷ [] → Signs s at (operator (drop at s)) (Some (ordered s n x y))
   unfolding ordered
   signs_ordered {x} {y} f i = go (eqb (byte_at s n) (ch "=")) refl
     where
       go : (t : Bool) → eqb (byte_at s n) (ch "=") ≡ t
-          → Signs s at (operator (drop at s)) (if t then ReadOperator.Operator x (after s n) else ReadOperator.Operator y n)
+          → Signs s at (operator (drop at s)) (Some (if t then record { value = x; next = after s n } else record { value = y; next = n }))
       go true z = signed (with_equal f (eqb-true _ _ z))
       go false z = signed (without_equal i (eqb-false _ _ z))
 
 -- what an answer about operators tells once it is taken apart
-pub signs_missing : {s : Bytes} {at : ℕ} {o : Option (Operator × Bytes)} {r : ReadOperator} → Signs s at o r → r ≡ ReadOperator.Missing → o ≡ none
+pub signs_missing : {s : Bytes} {at : ℕ} {o : Option (Operator × Bytes)} {r : Maybe (Read ℕ)} → Signs s at o r → r ≡ None → o ≡ none
 signs_missing (signed x) e = let z : ◌≡◌ {A = ℕ} 0 1 = cc in absurd (omega arith)
 signs_missing (missing f) e = f
 
-pub signs_operator : {s : Bytes} {at b n : ℕ} {o : Option (Operator × Bytes)} {r : ReadOperator} → Signs s at o r → r ≡ ReadOperator.Operator b n
-    → Signed s at o b n
-signs_operator {b = b} {n = n} (signed {byte = b'} {next = n'} x) e =
-    let f : b' ≡ b = cc in
-    let g : n' ≡ n = cc in
-    rw (← f, ← g) x
+pub signs_operator : {s : Bytes} {at : ℕ} {p : Read ℕ} {o : Option (Operator × Bytes)} {r : Maybe (Read ℕ)} → Signs s at o r → r ≡ Some p
+    → Signed s at o p.value p.next
+signs_operator {p = p} (signed {r = q} x) e = let f : q ≡ p = cc in rw (← f) x
 signs_operator (missing f) e = let z : ◌≡◌ {A = ℕ} 0 1 = cc in absurd (omega arith)

@@ -4,61 +4,66 @@ use Prim.Native.Nat.{ℕ, ◌+◌, ◌-◌, ◌≤◌, ◌<◌}
 use native.Mathlib.Omega.{arith}
 use native.Mathlib.Nat.{sub-zero}
 use mathlib.Core.Path.{◌≡◌, refl, sym, ap, ◌∙◌}
-use mathlib.Core.Bool.{Bool, true, false}
-use mathlib.Core.List.{◌∷◌, ◌++◌, append-nil}
+use mathlib.Core.Bool.{Bool, true, false, true≢false, not}
+use mathlib.Core.List.{[], ◌∷◌, ◌++◌, append-nil}
 use mathlib.Core.Option.{Option, none, some}
-use lib.ListN.{length, take, drop, set, replicate, length-take, length-append, length-replicate, drop_of_length-le}
-use lib.Seq.{take_at, length-take-le}
+use lib.ListN.{length, take, drop, replicate, length-take, length-append, length-replicate, drop_of_length-le}
+use lib.Seq.{take_at}
 use lib.Dec.{leb, eqb, lit<}
-use borrow.Author.Tests.{le-leb, lt-leb, eq-eqb, ne_eqb}
+use borrow.Author.Tests.{le-leb, lt-leb, eq-eqb, ne_eqb, eqb-true}
 use Rattle.paper.specs.Bytes.{Bytes, ch, any, buffer}
 use Rattle.paper.specs.Sizes.{is_mark, code_most}
 use Rattle.paper.specs.Grammar as paper
 use Rattle.paper.specs.Checking.{Checked, accepted, faulty, check, checked_codes}
-use Rattle.paper.specs.Refusals.{Res, given, refused, ◌>>◌, ◌>>=◌, answer_of, over_long_code, not_in_grammar, short_output}
-use Rattle.paper.specs.Answers.{given_of, length_in}
+use Rattle.paper.specs.Refusals.{Res, given, refused, ◌>>◌, ◌>>=◌, answer_of, over_long_code, not_in_grammar}
+use Rattle.std.specs.Prelude.{Result, Ok, Err, Some}
+use Rattle.std.specs.Prelude.{Option as Maybe}
+use Rattle.std.specs.Option.{option_eq}
+use Rattle.paper.specs.Answers.{number_of, told, sized, length_in}
 use Rattle.paper.specs.Converting.{fitted}
-use Rattle.paper.specs.declared.Given.{Given}
-use Rattle.judging.specs.Verdicts.{verdict_of}
+use Rattle.paper.specs.declared.Refusal.{Refusal}
+use Rattle.judging.specs.Verdicts.{lawful, bad, verdict_of}
 use Rattle.judging.specs.declared.Counts.{Counts}
-use Rattle.judging.specs.declared.Verdict.{Verdict}
 use Rattle.lent.specs.Over as lent
 use Rattle.lent.specs.Over.{over}
-use Rattle.lent.proofs.Laws.{over_front, over_behind}
+use Rattle.lent.proofs.Laws.{over_behind}
+use Rattle.lent.proofs.Laying.{laid_behind, laid_read}
 use Rattle.readers.specs.Places.{Peeked}
 use Rattle.readers.proofs.Bytes.{left_none}
 use Rattle.algebra.specs.Expressions.{Expression, elms_in, behind, f_text}
 use Rattle.algebra.specs.Grammar.{expression, algebra, read}
 use Rattle.algebra.specs.Showing.{in_grammar, understood, spelt_out, lawful_text, shown_text, show}
-use Rattle.algebra.specs.Laying.{Laid}
+use Rattle.algebra.specs.Laying.{Laid, Lays, laid, unread}
 use Rattle.algebra.proofs.Ahead.{hit, miss}
-use Rattle.algebra.proofs.Laying.{set_then}
 
 -- an answer, and the front of the text it is in
-abbrev pub Told : Res Bytes → Bytes → Given → Type 0
-Told x text r = record { value : r ≡ given_of x; text_after : take (length_in r) text ≡ answer_of x }
-
-pub told_refused : {x : Res Bytes} {n : ℕ} (text : Bytes) → x ≡ refused n → Told x text (Given.Refused n)
-unfolding given_of length_in
-told_refused text e = rw e (record { value = refl; text_after = refl })
-
-pub told_given : {x : Res Bytes} {bs : Bytes} {n : ℕ} (text : Bytes) → x ≡ given bs → n ≡ length bs → take n text ≡ bs → Told x text (Given.Length n)
-unfolding given_of length_in
-told_given text e f g = rw e (record { value = ap Given.Length f; text_after = g })
+abbrev pub Told : Res Bytes → Bytes → Result ℕ Refusal → Type 0
+Told x text r = record { value : told r ≡ sized x; text_after : take (length_in r) text ≡ answer_of x }
 
 -- what is told once the answer is taken apart
-pub refused_is : (x : Res Bytes) (text : Bytes) {r : Given} {n : ℕ} → Told x text r → r ≡ Given.Refused n → x ≡ refused n
-unfolding given_of
-refused_is (given bs) text t e = let z : ◌≡◌ {A = ℕ} 0 1 = cc t.value in absurd (omega arith)
-refused_is (refused n) text t e = cc t.value
+pub refused_is : (x : Res Bytes) (text : Bytes) {r : Result ℕ Refusal} {e : Refusal} → Told x text r → r ≡ Err e → x ≡ refused (number_of e)
+refused_is x text {r} {e} t f = go x (sym (ap told f) ∙ t.value)
+  where
+    go : (x : Res Bytes) → refused (number_of e) ≡ sized x → x ≡ refused (number_of e)
+    go (given bs) g = let z : ◌≡◌ {A = ℕ} 0 1 = cc in absurd (omega arith)
+    go (refused n) g = cc
 
-pub given_is : (x : Res Bytes) (text : Bytes) {r : Given} {n : ℕ} → Told x text r → r ≡ Given.Length n → (x ≡ given (take n text)) × (n ≤ length text)
-unfolding given_of length_in
-given_is (given bs) text {r} {n} t e =
-    let f : length bs ≡ n = cc t.value in
-    let g : take n text ≡ bs = sym (ap (λ (q : Given). take (length_in q) text) e) ∙ t.text_after in
-    (ap given (sym g), omega (arith, length-take n text, ap length g))
-given_is (refused k) text t e = let z : ◌≡◌ {A = ℕ} 0 1 = cc t.value in absurd (omega arith)
+pub given_is : (x : Res Bytes) (text : Bytes) {r : Result ℕ Refusal} {n : ℕ} → Told x text r → r ≡ Ok n → (x ≡ given (take n text)) × (n ≤ length text)
+given_is x text {r} {n} t f = go x (sym (ap told f) ∙ t.value) (sym (ap (λ (q : Result ℕ Refusal). take (length_in q) text) f) ∙ t.text_after)
+  where
+    go : (x : Res Bytes) → given n ≡ sized x → take n text ≡ answer_of x → (x ≡ given (take n text)) × (n ≤ length text)
+    go (given bs) g h = let k : n ≡ length bs = cc in (ap given (sym h), omega (arith, length-take n text, ap length h))
+    go (refused m) g h = let z : ◌≡◌ {A = ℕ} 0 1 = cc in absurd (omega arith)
+
+-- as many as are told
+size : Res ℕ → ℕ
+size (given n) = n
+size (refused n) = 0
+
+length_size : (r : Result ℕ Refusal) → length_in r ≡ size (told r)
+unfolding size
+length_size (Ok n) = refl
+length_size (Err e) = refl
 
 algebra_of : (rest : Bytes) → algebra (ch "A" ∷ rest) ≡ expression (length rest) rest
 unfolding algebra paper.this
@@ -104,16 +109,31 @@ module _ (code : Bytes) where
           pub spelt_whole : next ≡ length code → spelt_out code ≡ given (f_text x.thing)
           spelt_whole g = spelt_read (some x.thing) (all_read_is true (eq-eqb next (length code) g))
 
--- an `F`, and the elms laid behind it
-pub text_laid : (t : Bytes) {u : Bytes} {end : ℕ} (e : Expression) → 1 + length (behind (elms_in e)) ≤ length t
-    → lent.Laid (behind (elms_in e)) (set t 0 (ch "F")) end u 1
-    → (end ≡ length (f_text e)) × (take end u ≡ f_text e)
-unfolding f_text
-text_laid t {u} {end} e h w =
-    let whole : Bytes = ch "F" ∷ behind (elms_in e) in
-    let laid : u ≡ whole ++ drop (length whole) t = w.bytes ∙ set_then t 0 (ch "F") (behind (elms_in e)) (omega arith) ∙ over_front t whole in
-    let long : end ≡ length whole = omega (arith, w.place) in
-    (long, ap (take end) laid ∙ take_at whole (drop (length whole) t) end (sym long))
+        -- an expression that ends with the code, laid behind an `F`; or none that does
+        module _ {u w : Bytes} {l end : ℕ} {r : Maybe ℕ} (x : Lays elms_in code n u l (expression (length (drop n code)) (drop n code)) r w end) where
+          pub spelt_otherwise : true ≡ not (option_eq eqb r (Some (length code))) → spelt_out code ≡ refused not_in_grammar
+          spelt_otherwise g = go x g
+            where
+              go : {r : Maybe ℕ} → Lays elms_in code n u l (expression (length (drop n code)) (drop n code)) r w end
+                  → true ≡ not (option_eq eqb r (Some (length code))) → spelt_out code ≡ refused not_in_grammar
+              go (unread h) g = spelt_unread h
+              go (laid {next = k} y) g = spelt_more y (λ same. true≢false (rw (eq-eqb k (length code) same) at g))
+
+          pub spelt_so : {t : Bytes} → lent.Laid (ch "F" ∷ []) t l u 0 → end ≤ length t → false ≡ not (option_eq eqb r (Some (length code)))
+              → spelt_out code ≡ given (take end w)
+          unfolding f_text
+          spelt_so f room g = go x g
+            where
+              whole : (k : ℕ) (q : Bool) → eqb k (length code) ≡ q → false ≡ not q → k ≡ length code
+              whole k true h i = eqb-true k (length code) h
+              whole k false h i = absurd (true≢false (sym i))
+
+              go : {r : Maybe ℕ} → Lays elms_in code n u l (expression (length (drop n code)) (drop n code)) r w end
+                  → false ≡ not (option_eq eqb r (Some (length code))) → spelt_out code ≡ given (take end w)
+              go (unread h) g = absurd (true≢false (sym g))
+              go (laid {next = k} y) g =
+                  let text : take (end - 0) (drop 0 w) ≡ f_text y.thing = laid_read room (laid_behind f y.written (omega arith)) in
+                  spelt_whole y (whole k (eqb k (length code)) refl g) ∙ ap given (sym (rw (sub-zero end) at text))
 
 -- "5 if the F text would pass 512 bytes, 7 as the F text earns it": what the check says of it
 module _ (text : Bytes) where
@@ -137,66 +157,48 @@ module _ (text : Bytes) where
       go true f = lawful_short f ∙ rw e
       go false f = lawful_long f ∙ ap (λ (c : Checked). checked_codes c >> given text) (sym (check_long f) ∙ e)
 
-pub lawful_accepted : (text : Bytes) {v : Verdict} {counts : Counts} → v ≡ verdict_of (check text) → v ≡ Verdict.Accepted counts → lawful_text text ≡ given text
+pub lawful_accepted : (text : Bytes) {counts : Counts} → lawful counts ≡ verdict_of (check text) → lawful_text text ≡ given text
 unfolding verdict_of checked_codes
-lawful_accepted text {v} {counts} e f = go (check text) refl (sym e ∙ f)
+lawful_accepted text {counts} e = go (check text) refl e
   where
-    go : (x : Checked) → check text ≡ x → verdict_of x ≡ Verdict.Accepted counts → lawful_text text ≡ given text
+    go : (x : Checked) → check text ≡ x → lawful counts ≡ verdict_of x → lawful_text text ≡ given text
     go (accepted cs) g h = lawful_check text (accepted cs) g
     go (faulty n k) g h = let z : ◌≡◌ {A = ℕ} 0 1 = cc in absurd (omega arith)
 
-pub lawful_refused : (text : Bytes) {v : Verdict} {number k : ℕ} → v ≡ verdict_of (check text) → v ≡ Verdict.Refused number k
-    → lawful_text text ≡ refused number
+pub lawful_refused : (text : Bytes) {number k : ℕ} → bad number k ≡ verdict_of (check text) → lawful_text text ≡ refused number
 unfolding verdict_of checked_codes
-lawful_refused text {v} {number} {k} e f = go (check text) refl (sym e ∙ f)
+lawful_refused text {number} {k} e = go (check text) refl e
   where
-    go : (x : Checked) → check text ≡ x → verdict_of x ≡ Verdict.Refused number k → lawful_text text ≡ refused number
+    go : (x : Checked) → check text ≡ x → bad number k ≡ verdict_of x → lawful_text text ≡ refused number
     go (accepted cs) g h = let z : ◌≡◌ {A = ℕ} 0 1 = cc in absurd (omega arith)
     go (faulty n j) g h = let same : n ≡ number = cc in lawful_check text (faulty n j) g ∙ ap refused same
 
 -- the F text is judged where it stands
-pub shown_refused : (code text : Bytes) {n : ℕ} → spelt_out code ≡ refused n → Told (shown_text code) text (Given.Refused n)
+pub shown_refused : (code : Bytes) {n : ℕ} → refused n ≡ spelt_out code → refused n ≡ shown_text code
 unfolding shown_text
-shown_refused code text e = told_refused text (rw e)
+shown_refused code e = rw (← e) refl
 
-shown_is : (code : Bytes) {bs : Bytes} → spelt_out code ≡ given bs → shown_text code ≡ lawful_text bs
+pub shown_is : (code : Bytes) {bs : Bytes} → given bs ≡ spelt_out code → lawful_text bs ≡ shown_text code
 unfolding shown_text
-shown_is code e = rw e
-
-lawful_either : (text : Bytes) (x : Checked) → check text ≡ x → (r : Given) → r ≡ given_of (lawful_text text) → (whole : Bytes) (n : ℕ) → take n whole ≡ text
-    → n ≤ length whole → take (length_in r) whole ≡ answer_of (lawful_text text)
-unfolding given_of length_in checked_codes
-lawful_either text (accepted cs) e r f whole n g h =
-    let i : lawful_text text ≡ given text = lawful_check text (accepted cs) e in
-    let j : length_in r ≡ n = ap length_in (f ∙ ap given_of i) ∙ omega (arith, length-take-le n whole h, ap length g) in
-    rw (i, j) g
-lawful_either text (faulty k m) e r f whole n g h =
-    let i : lawful_text text ≡ refused k = lawful_check text (faulty k m) e in
-    let j : length_in r ≡ 0 = ap length_in (f ∙ ap given_of i) in
-    rw (i, j) refl
-
-pub shown_lawful : (code text : Bytes) (n : ℕ) {r : Given} → spelt_out code ≡ given (take n text) → n ≤ length text → r ≡ given_of (lawful_text (take n text))
-    → Told (shown_text code) text r
-shown_lawful code text n {r} e h f =
-    rw (shown_is code e) (record { value = f; text_after = lawful_either (take n text) (check (take n text)) refl r f text n refl h })
+shown_is code e = rw (← e) refl
 
 -- An answer and its output: the answer and then zeros, zeros alone on a refusal.
-abbrev pub Handed : ℕ → Res Bytes → Given → Bytes → Type 0
-Handed room x r out = record { value : r ≡ given_of x; out_after : out ≡ buffer room (answer_of x) }
+abbrev pub Handed : ℕ → Res Bytes → Result ℕ Refusal → Bytes → Type 0
+Handed room x r out = record { value : told r ≡ sized x; out_after : out ≡ buffer room (answer_of x) }
 
-pub handed_refused : (room : ℕ) {x : Res Bytes} {n : ℕ} {out : Bytes} → x ≡ refused n → out ≡ replicate room 0 → Handed room x (Given.Refused n) out
-unfolding given_of buffer
-handed_refused room e f = rw e (record { value = refl; out_after = f ∙ ap (λ (n : ℕ). replicate n 0) (sym (sub-zero room)) })
+pub handed_refused : (room : ℕ) {x : Res Bytes} {out : Bytes} (e : Refusal) → x ≡ refused (number_of e) → out ≡ replicate room 0 → Handed room x (Err e) out
+unfolding buffer
+handed_refused room e f g = rw f (record { value = refl; out_after = g ∙ ap (λ (n : ℕ). replicate n 0) (sym (sub-zero room)) })
 
 pub handed_short : (text : Bytes) {out : Bytes} (room : ℕ) → room < length text → out ≡ replicate room 0
-    → Handed room (fitted room (given text)) (Given.Refused short_output) out
+    → Handed room (fitted room (given text)) (Err Refusal.ShortOutput) out
 unfolding fitted
-handed_short text room h f = handed_refused room {x = fitted room (given text)} (rw (lt-leb (length text) room h)) f
+handed_short text room h f = handed_refused room {x = fitted room (given text)} Refusal.ShortOutput (rw (lt-leb (length text) room h)) f
 
 pub handed_whole : (text before : Bytes) {out : Bytes} → length text ≤ length before
     → out ≡ over (over before 0 text) (length text) (replicate (length before - length text) 0)
-    → Handed (length before) (fitted (length before) (given text)) (Given.Length (length text)) out
-unfolding fitted given_of buffer
+    → Handed (length before) (fitted (length before) (given text)) (Ok (length text)) out
+unfolding fitted buffer
 handed_whole text before {out} h f =
     let zeros : Bytes = replicate (length before - length text) 0 in
     let none_left : length before ≤ length (text ++ zeros) = omega (arith, length-append text zeros, length-replicate {A = ℕ} (length before - length text) 0)
@@ -207,21 +209,21 @@ handed_whole text before {out} h f =
       out_after = f ∙ over_behind before text zeros (length text) refl ∙ rw (drop_of_length-le before none_left) (append-nil (text ++ zeros));
     })
 
-pub show_refused : (code : Bytes) (room : ℕ) {n : ℕ} {out : Bytes} → shown_text code ≡ refused n → out ≡ replicate room 0
-    → Handed room (show code room) (Given.Refused n) out
+pub show_refused : (code : Bytes) (room : ℕ) {out : Bytes} (e : Refusal) → refused (number_of e) ≡ shown_text code → out ≡ replicate room 0
+    → Handed room (show code room) (Err e) out
 unfolding show fitted
-show_refused code room e f = handed_refused room (rw e) f
+show_refused code room e f g = handed_refused room e (rw (← f) refl) g
 
-pub show_given : (code text : Bytes) (room : ℕ) → shown_text code ≡ given text → show code room ≡ fitted room (given text)
+pub show_given : (code text : Bytes) (room : ℕ) → given text ≡ shown_text code → show code room ≡ fitted room (given text)
 unfolding show
-show_given code text room e = rw e
+show_given code text room e = rw (← e) refl
 
 -- what was handed over stands in front of the output
-pub handed_told : (room : ℕ) (x : Res Bytes) {r : Given} {out : Bytes} → Handed room x r out → Told x out r
-unfolding given_of length_in buffer
-handed_told room x {r} {out} h =
-    record { value = h.value; text_after = rw h.out_after (ap (λ (q : Given). take (length_in q) (buffer room (answer_of x))) h.value ∙ front x) }
+pub handed_told : (room : ℕ) (x : Res Bytes) (r : Result ℕ Refusal) {out : Bytes} → Handed room x r out → Told x out r
+unfolding buffer size
+handed_told room x r h =
+    record { value = h.value; text_after = rw (h.out_after, length_size r, h.value) (front x) }
   where
-    front : (y : Res Bytes) → take (length_in (given_of y)) (buffer room (answer_of y)) ≡ answer_of y
+    front : (y : Res Bytes) → take (size (sized y)) (buffer room (answer_of y)) ≡ answer_of y
     front (given bs) = take_at bs (replicate (room - length bs) 0) (length bs) refl
     front (refused n) = refl

@@ -1,5 +1,6 @@
 -- What the code's readers leave, as facts of its own answer: the place after what was read, and its elms laid behind the F text so far.
-use Rattle.std.specs.Prelude.{ℕ, ◌+◌, ◌*◌, ◌≤◌, ◌<◌, ◌≡◌, Bool, true, false, List, [], ◌∷◌, ◌++◌, length, drop, eqb, if◌then◌else◌}
+use Rattle.std.specs.Prelude.{ℕ, ◌+◌, ◌*◌, ◌≤◌, ◌<◌, ◌≡◌, Bool, true, false, List, [], ◌∷◌, ◌++◌, length, drop, eqb, if◌then◌else◌, Some, None}
+use Rattle.std.specs.Prelude.{Option as Maybe}
 use Rattle.std.proofs.Math.Option.{Option, none, some}
 use Rattle.paper.specs.Bytes.{Bytes, ch, bytes}
 use Rattle.paper.specs.Codes.{Elm}
@@ -8,8 +9,7 @@ use Rattle.codes.specs.declared.Operand as operands
 use Rattle.readers.specs.Places.{byte_at, after}
 use Rattle.lent.specs.Over as lent
 use Rattle.algebra.specs.Expressions.{Expression, Operand, Operator, Spelt, spelt, elms_in, operand_elms, behind}
-use Rattle.algebra.specs.declared.Shown.{Shown}
-use Rattle.algebra.specs.declared.ReadOperator.{ReadOperator}
+use Rattle.paper.specs.declared.Read.{Read}
 
 -- a text has room for what the rest of a code may be shown as: no byte is shown as more than three
 pub record Room (code : Bytes) (at : ℕ) (text : Bytes) (len : ℕ) : Type 0 where
@@ -27,10 +27,11 @@ pub record Laid {A : Type 0} (elms : A → List Spelt) (code : Bytes) (at : ℕ)
   pub few : end + 3 * at ≤ len + 3 * next
   pub written : lent.Laid (behind (elms thing)) before end after len
 
--- the answer of a reader, beside what the definition reads
-pub data Lays {A : Type 0} (elms : A → List Spelt) (code : Bytes) (at : ℕ) (before : Bytes) (len : ℕ) (read : Option (A × Bytes)) : Shown → Bytes → Type 0 where
-  laid : {next end : ℕ} {after : Bytes} → Laid elms code at before len read next end after → Lays elms code at before len read (Shown.Upto next end) after
-  unread : {after : Bytes} → read ≡ none → Lays elms code at before len read Shown.Unread after
+-- the answer of a reader, with the text after it and the bytes laid in it, beside what the definition reads
+pub data Lays {A : Type 0} (elms : A → List Spelt) (code : Bytes) (at : ℕ) (before : Bytes) (len : ℕ) (read : Option (A × Bytes))
+    : Maybe ℕ → Bytes → ℕ → Type 0 where
+  laid : {next end : ℕ} {after : Bytes} → Laid elms code at before len read next end after → Lays elms code at before len read (Some next) after end
+  unread : {end : ℕ} {after : Bytes} → read ≡ none → Lays elms code at before len read None after end
 
 -- `x,y`, and `[y,z]` with its elm behind it
 abbrev pub pair_elms : Expression × Expression → List Spelt
@@ -62,11 +63,11 @@ pub record Signed (code : Bytes) (at : ℕ) (read : Option (Operator × Bytes)) 
   pub forward : at < next
   pub inside : next ≤ length code
 
-pub data Signs (code : Bytes) (at : ℕ) (read : Option (Operator × Bytes)) : ReadOperator → Type 0 where
-  signed : {byte next : ℕ} → Signed code at read byte next → Signs code at read (ReadOperator.Operator byte next)
-  missing : read ≡ none → Signs code at read ReadOperator.Missing
+pub data Signs (code : Bytes) (at : ℕ) (read : Option (Operator × Bytes)) : Maybe (Read ℕ) → Type 0 where
+  signed : {r : Read ℕ} → Signed code at read r.value r.next → Signs code at read (Some r)
+  missing : read ≡ none → Signs code at read None
 
 -- `<` or `>`: the one byte where a `=` stands behind it, else the other
-unfoldable pub ordered : Bytes → ℕ → ℕ → ℕ → ReadOperator
+unfoldable pub ordered : Bytes → ℕ → ℕ → ℕ → Read ℕ
 ordered code at with_it without =
-    if eqb (byte_at code at) (ch "=") then ReadOperator.Operator with_it (after code at) else ReadOperator.Operator without at
+    if eqb (byte_at code at) (ch "=") then record { value = with_it; next = after code at } else record { value = without; next = at }

@@ -5,112 +5,85 @@
 
 mod expressions;
 mod operators;
+mod texts;
 
-ghost use Rattle.std.specs.Prelude.{◌≡◌, ◌*◌, ◌≤◌, length, take};
+ghost use Rattle.std.specs.Prelude.{◌≡◌, length, take};
 ghost use Rattle.paper.specs.Bytes.{buffer};
-ghost use Rattle.paper.specs.Sizes.{code_most};
 ghost use Rattle.paper.specs.Refusals.{given, answer_of};
-ghost use Rattle.paper.specs.Answers.{given_of, length_in};
+ghost use Rattle.paper.specs.Answers.{told, told_by, sized};
 ghost use Rattle.paper.specs.Converting.{fitted};
 ghost use Rattle.algebra.specs.Showing.{spelt_out, lawful_text, shown_text, show};
 
-use judging::Verdict;
-use paper::{Given, Limit};
+use crate::texts::Text;
+use paper::{Limit, Refusal};
 use readers::places::peek;
 
-// Room for the F text of the longest A code: no byte of it is shown as more than three.
-const TEXT: usize = 3 * Limit::CODE.most;
-
-// What a reader answers: the place after what it read and the bytes of the F text so far, or that it is not in the grammar.
-#[derive(Clone, Copy)]
-pub(crate) enum Shown {
-    Upto { next: usize, len: usize },
-    Unread,
-}
-
-// An operator's byte in F and the place after it, or that none stands there.
-#[derive(Clone, Copy)]
-pub(crate) enum ReadOperator {
-    Operator { byte: u8, next: usize },
-    Missing,
-}
-
-// "5 for an A code over 512, 6 if not an expression"; the length of its F text, which may be over 512 itself.
-fn spelt_out(code: &[u8], text: &mut [u8]) -> Given
-    requires { 3 * code_most ≤ length text.old }
-    ensures value { result ≡ given_of (spelt_out code.now) }
-    ensures text_after { take (length_in result) text.new ≡ answer_of (spelt_out code.now) }
+// "5 for an A code over 512, 6 if not an expression"; its F text, which may be over 512 itself.
+fn spelt_out(code: &[u8], text: &mut Text) -> Result<(), Refusal>
+    requires { text.old.len ≡ 0 }
+    ensures { told_by (λ _. take text.new.len text.new.bytes) result ≡ spelt_out code.now }
 {
     if Limit::CODE.most < code.len() {
-        return Given::Refused(paper::refusal::OVER_LONG_CODE);
+        return Err(Refusal::OverLongCode);
     }
     if lent::marked(code) {
-        return Given::Refused(paper::refusal::NOT_IN_GRAMMAR);
+        return Err(Refusal::NotInGrammar);
     }
     let first = peek(code, 0);
-    if first.byte != b'A' {
-        return Given::Refused(paper::refusal::NOT_IN_GRAMMAR);
+    if first.value != b'A' {
+        return Err(Refusal::NotInGrammar);
     }
-    text[0] = b'F';
-    let Shown::Upto { next, len } = expressions::expression(code, first.next, text, 1) else {
-        return Given::Refused(paper::refusal::NOT_IN_GRAMMAR);
-    };
-    if next != code.len() {
-        return Given::Refused(paper::refusal::NOT_IN_GRAMMAR);
+    text.push(b'F');
+    if expressions::expression(code, first.next, text) != Some(code.len()) {
+        return Err(Refusal::NotInGrammar);
     }
-    Given::Length(len)
+    Ok(())
 }
 
 // "5 if the F text would pass 512 bytes, 7 as the F text earns it": both are the check's.
-fn lawful(text: &[u8]) -> Given
-    ensures { result ≡ given_of (lawful_text text.now) }
+fn lawful(text: &[u8]) -> Result<(), Refusal>
+    ensures { told_by (λ _. text.now) result ≡ lawful_text text.now }
 {
-    let verdict = judging::check(text);
-    match verdict {
-        Verdict::Accepted(_) => Given::Length(text.len()),
-        Verdict::Refused { number, code: _ } => Given::Refused(number),
-    }
+    judging::check(text).map_err(|bad| bad.refusal)?;
+    Ok(())
 }
 
-// The F text of an A code, in front of the lent text.
-fn shown_text(code: &[u8], text: &mut [u8]) -> Given
-    requires { 3 * code_most ≤ length text.old }
-    ensures value { result ≡ given_of (shown_text code.now) }
-    ensures text_after { take (length_in result) text.new ≡ answer_of (shown_text code.now) }
+// The F text of an A code.
+fn shown_text(code: &[u8], text: &mut Text) -> Result<(), Refusal>
+    requires { text.old.len ≡ 0 }
+    ensures { told_by (λ _. take text.new.len text.new.bytes) result ≡ shown_text code.now }
 {
-    let spelt = spelt_out(code, text);
-    let Given::Length(len) = spelt else {
-        return spelt;
-    };
-    lawful(&text[0..len])
+    spelt_out(code, text)?;
+    lawful(text.as_slice())
 }
 
 // An answer in front of the output and zeros behind it, or 16.
-fn hand_over(text: &[u8], out: &mut [u8]) -> Given
-    ensures value { result ≡ given_of (fitted (length out.old) (given text.now)) }
+fn hand_over(text: &[u8], out: &mut [u8]) -> Result<usize, Refusal>
+    ensures value { told result ≡ sized (fitted (length out.old) (given text.now)) }
     ensures out_after { out.new ≡ buffer (length out.old) (answer_of (fitted (length out.old) (given text.now))) }
 {
     let len = text.len();
     let room = out.len();
     if room < len {
         lent::clear(out);
-        return Given::Refused(paper::refusal::SHORT_OUTPUT);
+        return Err(Refusal::ShortOutput);
     }
     lent::copy_in(text, out, 0);
     lent::fill(out, len, room - len, 0);
-    Given::Length(len)
+    Ok(len)
 }
 
 // "5 for an A code over 512, 6 if not an expression, 5 if the F text would pass 512 bytes, 7 as the F text earns it, 16, in that order"
-pub fn show(code: &[u8], out: &mut [u8]) -> Given
-    ensures answers { result ≡ given_of (show code.now (length out.old)) }
+pub fn show(code: &[u8], out: &mut [u8]) -> Result<usize, Refusal>
+    ensures answers { told result ≡ sized (show code.now (length out.old)) }
     ensures writes { out.new ≡ buffer (length out.old) (answer_of (show code.now (length out.old))) }
 {
-    let mut text = [0u8; TEXT];
-    let shown = shown_text(code, &mut text);
-    let Given::Length(len) = shown else {
-        lent::clear(out);
-        return shown;
-    };
-    hand_over(&text[0..len], out)
+    let mut text = Text::EMPTY;
+    match shown_text(code, &mut text) {
+        Ok(()) => hand_over(text.as_slice(), out),
+        Err(refusal) => {
+            lent::clear(out);
+            Err(refusal)
+        }
+    }
 }

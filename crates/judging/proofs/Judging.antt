@@ -1,5 +1,4 @@
 -- One code: its elms turn by turn, and the whole of it.
-use Rattle.std.specs.Prelude.{if◌then◌else◌}
 use Prim.Native.Nat.{ℕ, ◌<◌, ◌≤◌, ◌+◌}
 use mathlib.Core.Path.{◌≡◌, refl, sym, ap, ◌∙◌}
 use mathlib.Core.Bool.{Bool, true, false}
@@ -31,8 +30,7 @@ use Rattle.judging.specs.Tallies.{counts_in, kind_in, step_kind, none_yet, tally
 use Rattle.judging.specs.Verdicts.{finished, judged_of}
 use Rattle.judging.specs.declared.Counts.{Counts}
 use Rattle.judging.specs.declared.Tally.{Tally}
-use Rattle.judging.specs.declared.Judged.{Judged}
-use Rattle.judging.proofs.Tallying.{none_added, kind_back, told, tallied}
+use Rattle.judging.proofs.Tallying.{none_added, kind_back, concluded, tallied}
 
 -- an elm, and those that follow
 finished_onto : (e : codes.Elm) (t : Tally) (o : Option (List codes.Elm)) → finished (elm_onto e o) t ≡ finished o (tally_after e t)
@@ -44,7 +42,7 @@ module _ (s : Bytes) (at : ℕ) (h : at ≤ length s) (t : Tally) where
   from : {o : Option (List codes.Elm)} → elms_from s at ≡ o → finished (elms_from s at) t ≡ finished o t
   from f = ap (λ (o : Option (List codes.Elm)). finished o t) f
 
-  pub finished_none : place.elm s at ≡ none → finished (elms_from s at) t ≡ Judged.Faulty 6
+  pub finished_none : place.elm s at ≡ none → finished (elms_from s at) t ≡ refused 6
   unfolding finished
   finished_none e = from (elms_none s at h e)
 
@@ -60,12 +58,12 @@ module _ (s : Bytes) (at : ℕ) (h : at ≤ length s) (t : Tally) where
           ∙ finished_onto (elm_of s e) t (elms_from s (n + 1))
           ∙ ap (finished (elms_from s (n + 1))) (sym g)
 
-      pub finished_stray : (get_or s n 0 ≡ 59 → ⊥) → finished (elms_from s at) t ≡ Judged.Faulty 6
+      pub finished_stray : (get_or s n 0 ≡ 59 → ⊥) → finished (elms_from s at) t ≡ refused 6
       unfolding finished
       finished_stray j = from (elms_stray s at h e n f (omega arith) (peeked_inside s n l) j)
 
 -- A, B, P and T of one code, or its fault
-judging : Option codes.Code → Judged
+judging : Option codes.Code → Res Counts
 judging o = judged_of (in_grammar o >>= λ c. lawful c >> given c)
 
 judging_is : (s : Bytes) → judged_of (judged s) ≡ judging (paper.read s)
@@ -77,17 +75,16 @@ unfolding judging finished judged_of lawful code_counts
 judging_elms none = refl
 judging_elms (some es) = rw (tallied es none_yet, none_added (elms_counts es)) (go (all_stacked es 0))
   where
-    one : (t : Bool) → judged_of ((refuse 18 unless t) >> given (codes.function es))
-        ≡ (if t then Judged.Lawful (counts_in (elms_counts es)) else Judged.Faulty 18)
+    one : (t : Bool) → judged_of ((refuse 18 unless t) >> given (codes.function es)) ≡ ((refuse 18 unless t) >> given (counts_in (elms_counts es)))
     one true = refl
     one false = refl
 
-    go : (r : Res ℕ) → judged_of ((r >>= λ n. refuse 18 unless eqb n 1) >> given (codes.function es)) ≡ told false r (counts_in (elms_counts es))
+    go : (r : Res ℕ) → judged_of ((r >>= λ n. refuse 18 unless eqb n 1) >> given (codes.function es)) ≡ concluded r (counts_in (elms_counts es))
     go (given n) = one (eqb n 1)
     go (refused n) = refl
 
 module _ (s : Bytes) where
-  pub judged_marked : any is_mark s ≡ true → Judged.Faulty 6 ≡ judged_of (judged s)
+  pub judged_marked : any is_mark s ≡ true → refused 6 ≡ judged_of (judged s)
   unfolding judging judged_of
   judged_marked e = sym (judging_is s ∙ ap judging (marks_read s e))
 
@@ -99,11 +96,11 @@ module _ (s : Bytes) where
     judged_function {first} f = sym (by_head f ∙ judging_elms (elms_from s first))
 
     pub judged_single : {c : Conversion} {kind : Kind} {k : Counts} → head s ≡ some (Head.Single c) → kind ≡ kind_in (kind_of c)
-        → k ≡ counts_in (step_counts (step_kind kind)) → Judged.Lawful k ≡ judged_of (judged s)
+        → k ≡ counts_in (step_counts (step_kind kind)) → given k ≡ judged_of (judged s)
     unfolding judging judged_of lawful code_counts
     judged_single {c} f h g =
-        ap Judged.Lawful (g ∙ rw (h, kind_back, ← counted_kind (head_counted s f))) ∙ sym (by_head f)
+        ap given (g ∙ rw (h, kind_back, ← counted_kind (head_counted s f))) ∙ sym (by_head f)
 
-    pub judged_bad : head s ≡ none → Judged.Faulty 6 ≡ judged_of (judged s)
+    pub judged_bad : head s ≡ none → refused 6 ≡ judged_of (judged s)
     unfolding judging judged_of
     judged_bad f = sym (by_head f)

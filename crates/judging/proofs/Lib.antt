@@ -1,6 +1,8 @@
+pub mod Taken
 pub mod Tallying
 pub mod Judging
-pub mod Scans
+pub mod Parting
+pub mod Mapped
 pub mod Turns
 pub mod Sizes
 pub mod Walking

@@ -32,7 +32,6 @@ use Rattle.grammar.proofs.HeadReads.{functioned, read_by, head_reads, head_first
 use Rattle.judging.specs.Tallies.{counts_in, steps}
 use Rattle.judging.specs.Verdicts.{judged_of}
 use Rattle.judging.specs.declared.Counts.{Counts}
-use Rattle.judging.specs.declared.Judged.{Judged}
 use Rattle.judging.proofs.Tallying.{no_step, one_step}
 use Rattle.judging.proofs.Turns.{judged_lawful}
 
@@ -158,5 +157,5 @@ judged_read s c e = go (paper.read s) refl e
         pick (given u) k = let q : d ≡ c = cc in f ∙ ap some q
         pick (refused n) k = let z : ◌≡◌ {A = ℕ} 0 1 = cc in absurd (omega arith)
 
-pub judged_sized : (s : Bytes) (k : Counts) → judged_of (checking.judged s) ≡ Judged.Lawful k → 2 * steps k ≤ length s + 1
+pub judged_sized : (s : Bytes) (k : Counts) → judged_of (checking.judged s) ≡ given k → 2 * steps k ≤ length s + 1
 judged_sized s k e = let j = judged_lawful s k e in rw j.2 (code_sized s j.0 (judged_read s j.0 j.1))

@@ -8,16 +8,18 @@ use lib.Dec.{leb, eqb}
 use native.Mathlib.Nat.{add-zero, zero-add, add_assoc}
 use native.Mathlib.Omega.{arith}
 use borrow.Author.Tests.{leb-true}
+use Rattle.std.specs.Prelude.{Result, Ok, Err}
 use Rattle.paper.specs.Refusals.{Res, given, refused, ◌>>=◌, ◌>>◌, refuse◌unless◌}
+use Rattle.paper.specs.Answers.{told, length_in}
+use Rattle.paper.specs.declared.Refusal.{Refusal}
 use Rattle.paper.specs.Codes as paper
 use Rattle.paper.specs.Checking as checking
 use Rattle.paper.proofs.Weights.{weight}
-use Rattle.judging.specs.Tallies.{counts_in, counts_of, kind_in, step_kind, shape_in, no_steps, added, steps, left, room, entries_after, tally_after, tally_all, judgement_of}
+use Rattle.judging.specs.Tallies.{counts_in, counts_of, kind_in, step_kind, shape_in, no_steps, added, steps, left, room}
+use Rattle.judging.specs.Tallies.{entries_after, onward, tally_after, tally_all, judgement_of}
 use Rattle.judging.specs.declared.Counts.{Counts}
 use Rattle.judging.specs.declared.Shape.{Shape}
-use Rattle.judging.specs.declared.Entries.{Entries}
 use Rattle.judging.specs.declared.Tally.{Tally}
-use Rattle.judging.specs.declared.Judged.{Judged}
 
 -- counts: none more, to none, and one after the other
 pub added_none : (c : Counts) → added c checking.no_steps ≡ c
@@ -65,34 +67,42 @@ stacked_room e held = let z = shape_in (checking.shape e) in go (leb z.takes hel
     go true false n = refl
     go false u n = refl
 
--- a fault that was met before, or what is met from here on
-abbrev pub told : Bool → Res ℕ → Counts → Judged
-told true r c = Judged.Faulty 7
-told false (given held) c = if eqb held 1 then Judged.Lawful c else Judged.Faulty 18
-told false (refused n) c = Judged.Faulty n
-
-pub tallied : (es : List paper.Elm) (t : Tally) → judgement_of (tally_all es t) ≡ told t.faulty (checking.all_stacked es t.held) (added t.counts (checking.elms_counts es))
-unfolding tally_all checking.all_stacked checking.elms_counts judgement_of tally_after entries_after
-tallied [] t = rw (added_none t.counts) (go t.faulty)
+entered : (e : paper.Elm) (held : ℕ) → told (entries_after (shape_in (checking.shape e)) held) ≡ checking.stacked e held
+unfolding entries_after
+entered e held = let z = shape_in (checking.shape e) in rw (stacked_room e held) (go (room z held) (left z held))
   where
-    go : (f : Bool) → (if f then Judged.Faulty 7 else (if eqb t.held 1 then Judged.Lawful t.counts else Judged.Faulty 18))
-        ≡ told f (given t.held) t.counts
-    go true = refl
-    go false = refl
+    go : (t : Bool) (n : ℕ) → told (if t then Ok n else Err Refusal.StackFault) ≡ (if t then given n else refused 7)
+    go true n = refl
+    go false n = refl
+
+-- the entries that elms leave, or their fault; and then the steps, where one entry is left
+abbrev pub concluded : Res ℕ → Counts → Res Counts
+concluded r c = r >>= λ held. (refuse 18 unless eqb held 1) >> given c
+
+pub tallied : (es : List paper.Elm) (t : Tally)
+    → judgement_of (tally_all es t) ≡ concluded (told t.held >>= checking.all_stacked es) (added t.counts (checking.elms_counts es))
+unfolding tally_all checking.all_stacked checking.elms_counts judgement_of tally_after
+tallied [] t = rw (added_none t.counts) (go t.held)
+  where
+    go : (h : Result ℕ Refusal) → concluded (told h) t.counts ≡ concluded (told h >>= given) t.counts
+    go (Ok held) = refl
+    go (Err fault) = refl
 tallied (e ∷ es) t =
     tallied es (tally_after e t)
-    ∙ rw (added_more t.counts (checking.step_counts (checking.shape e).kind) (checking.elms_counts es), stacked_room e t.held) (go t.faulty (room (shape_in (checking.shape e)) t.held) _ _)
+    ∙ rw (added_more t.counts (checking.step_counts (checking.shape e).kind) (checking.elms_counts es))
+    (ap (λ (r : Res ℕ). concluded r (added t.counts (checking.together (checking.step_counts (checking.shape e).kind) (checking.elms_counts es)))) (go t.held))
   where
-    go : (f r : Bool) (n : ℕ) (all : Counts)
-        → let x : Entries = if f then record { held = t.held; faulty = true } else (if r then record { held = n; faulty = false } else record { held = t.held; faulty = true }) in
-        told x.faulty (checking.all_stacked es x.held) all ≡ told f ((if r then given n else refused 7) >>= checking.all_stacked es) all
-    go true r n all = refl
-    go false true n all = refl
-    go false false n all = refl
+    go : (h : Result ℕ Refusal)
+        → (told (onward h (entries_after (shape_in (checking.shape e)))) >>= checking.all_stacked es)
+        ≡ (told h >>= λ held. checking.stacked e held >>= checking.all_stacked es)
+    go (Ok held) = rw (entered e held) refl
+    go (Err fault) = refl
 
 -- One elm more: what the code finds of its shape, entries and steps is the tally after it.
-pub after_is : (e : paper.Elm) (t : Tally) {z : Shape} {x : Entries} {o c : Counts} → z ≡ shape_in (checking.shape e) → x ≡ entries_after z t.held t.faulty
-    → o ≡ counts_in (checking.step_counts (step_kind z.kind)) → c ≡ added t.counts (counts_of o) → record { held = x.held; faulty = x.faulty; counts = c } ≡ tally_after e t
+pub after_is : (e : paper.Elm) (t : Tally) {z : Shape} {h : Result ℕ Refusal} {o c : Counts}
+    → z ≡ shape_in (checking.shape e) → h ≡ onward t.held (entries_after z)
+    → o ≡ counts_in (checking.step_counts (step_kind z.kind)) → c ≡ added t.counts (counts_of o)
+    → record { held = h; counts = c } ≡ tally_after e t
 unfolding tally_after
 after_is e t k x g j = rw (j, g, x, k, kind_back (checking.shape e).kind)
 
@@ -101,16 +111,21 @@ module _ (e : paper.Elm) (t : Tally) {u : Tally} (g : u ≡ tally_after e t) whe
   unfolding tally_after
   after_steps = rw g (omega (arith, added_steps t.counts (checking.step_counts (checking.shape e).kind), one_step (checking.shape e).kind))
 
-  pub after_held : t.held ≤ 16 → u.held ≤ 16
+  pub after_held : length_in t.held ≤ 16 → length_in u.held ≤ 16
   unfolding tally_after entries_after room
-  after_held h = let z = shape_in (checking.shape e) in rw g (go t.faulty (leb z.takes t.held) (leb (left z t.held) 16) (left z t.held) refl)
+  after_held h = rw g (pick t.held h)
     where
-      go : (f x y : Bool) (n : ℕ) → leb n 16 ≡ y
-          → let r : Entries = if f then record { held = t.held; faulty = true } else (if x && y then record { held = n; faulty = false } else record { held = t.held; faulty = true }) in r.held ≤ 16
-      go true x y n q = h
-      go false true true n q = leb-true n 16 q
-      go false true false n q = h
-      go false false y n q = h
+      z : Shape
+      z = shape_in (checking.shape e)
+
+      go : (x y : Bool) (n : ℕ) → leb n 16 ≡ y → length_in (if x && y then Ok n else Err Refusal.StackFault) ≤ 16
+      go true true n q = leb-true n 16 q
+      go true false n q = omega arith
+      go false y n q = omega arith
+
+      pick : (o : Result ℕ Refusal) → length_in o ≤ 16 → length_in (onward o (entries_after z)) ≤ 16
+      pick (Ok n) k = go (leb z.takes n) (leb (left z n) 16) (left z n) refl
+      pick (Err fault) k = k
 
 pub puts_small : (e : paper.Elm) → (checking.shape e).puts ≤ 2
 unfolding checking.shape

@@ -1,15 +1,15 @@
 -- The elms of an F code as the code tallies them, over the paper's shapes and counts (crates/paper/specs/Checking.antt).
-use Rattle.std.specs.Prelude.{ℕ, ◌+◌, ◌-◌, Bool, true, false, ◌&&◌, List, [], ◌∷◌, leb, eqb, if◌then◌else◌}
+use Rattle.std.specs.Prelude.{ℕ, ◌+◌, ◌-◌, Bool, ◌&&◌, List, [], ◌∷◌, leb, eqb, if◌then◌else◌, Result, Ok, Err}
 use Rattle.paper.specs.Sizes.{stack_most}
-use Rattle.paper.specs.Refusals.{stack_fault, left_over_entries}
+use Rattle.paper.specs.Refusals.{Res, given, ◌>>=◌, ◌>>◌, refuse◌unless◌, left_over_entries}
+use Rattle.paper.specs.Answers.{told}
+use Rattle.paper.specs.declared.Refusal.{Refusal}
 use Rattle.paper.specs.Codes as paper
 use Rattle.paper.specs.Checking as checking
 use Rattle.judging.specs.declared.Counts.{Counts}
 use Rattle.judging.specs.declared.Kind.{Kind}
 use Rattle.judging.specs.declared.Shape.{Shape}
-use Rattle.judging.specs.declared.Entries.{Entries}
 use Rattle.judging.specs.declared.Tally.{Tally}
-use Rattle.judging.specs.declared.Judged.{Judged}
 
 -- the paper's records and the code's, field by field
 abbrev pub counts_in : checking.Counts → Counts
@@ -48,22 +48,23 @@ left z held = held - z.takes + z.puts
 unfoldable pub room : Shape → ℕ → Bool
 room z held = leb z.takes held && leb (left z held) stack_most
 
+unfoldable pub entries_after : Shape → ℕ → Result ℕ Refusal
+entries_after z held = if room z held then Ok (left z held) else Err Refusal.StackFault
+
 -- a fault stays
-unfoldable pub entries_after : Shape → ℕ → Bool → Entries
-entries_after z held faulty =
-    if faulty then record { held = held; faulty = true }
-    else (if room z held then record { held = left z held; faulty = false } else record { held = held; faulty = true })
+abbrev pub onward : Result ℕ Refusal → (ℕ → Result ℕ Refusal) → Result ℕ Refusal
+onward (Ok held) k = k held
+onward (Err fault) k = Err fault
 
 -- "F starts with an empty stack."
 abbrev pub none_yet : Tally
-none_yet = record { held = 0; faulty = false; counts = no_steps }
+none_yet = record { held = Ok 0; counts = no_steps }
 
 -- one elm more
 unfoldable pub tally_after : paper.Elm → Tally → Tally
 tally_after e t =
     record {
-      held = (entries_after (shape_in (checking.shape e)) t.held t.faulty).held;
-      faulty = (entries_after (shape_in (checking.shape e)) t.held t.faulty).faulty;
+      held = onward t.held (entries_after (shape_in (checking.shape e)));
       counts = added t.counts (checking.step_counts (checking.shape e).kind);
     }
 
@@ -72,7 +73,8 @@ tally_all [] t = t
 tally_all (e ∷ es) t = tally_all es (tally_after e t)
 
 -- a whole F code: its faults in their order, and then its steps
-unfoldable pub judgement_of : Tally → Judged
-judgement_of t =
-    if t.faulty then Judged.Faulty stack_fault
-    else (if eqb t.held 1 then Judged.Lawful t.counts else Judged.Faulty left_over_entries)
+unfoldable pub judgement_of : Tally → Res Counts
+judgement_of t = do
+  held ← told t.held
+  refuse left_over_entries unless eqb held 1
+  given t.counts

@@ -8,9 +8,9 @@ mod tallies;
 
 ghost use Rattle.std.specs.Prelude.{◌≡◌};
 ghost use Rattle.paper.specs.Checking.{check, report};
-ghost use Rattle.judging.specs.Verdicts.{fault_in, verdict_of, report_in};
+ghost use Rattle.judging.specs.Verdicts.{verdict_in, verdict_of, report_in};
 
-use paper::Limit;
+use paper::{Limit, Refusal};
 
 // Steps by their kind: "A attribute loads and B other steps", P codes, which B does not count, and the tests in all of them.
 #[derive(Clone, Copy)]
@@ -19,6 +19,15 @@ pub struct Counts {
     pub others: u64,
     pub patterns: u64,
     pub tests: u64,
+}
+
+impl Counts {
+    pub const NONE: Counts = Counts {
+        loads: 0,
+        others: 0,
+        patterns: 0,
+        tests: 0,
+    };
 }
 
 // What a step is counted as: a load, a P code with its tests, or another.
@@ -37,61 +46,41 @@ pub(crate) struct Shape {
     pub kind: Kind,
 }
 
-// Entries held after an elm, and whether it or an elm before it was a fault, refusal 7.
-#[derive(Clone, Copy)]
-pub(crate) struct Entries {
-    pub held: u64,
-    pub faulty: bool,
-}
-
-// The elms of an F code so far: the entries held, the faults met, the steps. 6 is decided on the whole code, and a fault only then.
+// The elms of an F code so far: the entries held, or the first fault, refusal 7, and the steps. 6 is decided on the whole code, and a fault only then.
 #[derive(Clone, Copy)]
 pub(crate) struct Tally {
-    pub held: u64,
-    pub faulty: bool,
+    pub held: Result<u64, Refusal>,
     pub counts: Counts,
 }
 
-// One code: its steps, or its fault.
-#[derive(Clone, Copy)]
-pub(crate) enum Judged {
-    Lawful(Counts),
-    Faulty(u64),
+impl Tally {
+    // "F starts with an empty stack."
+    pub(crate) const NONE_YET: Tally = Tally {
+        held: Ok(0),
+        counts: Counts::NONE,
+    };
 }
 
-impl Judged {
-    // the number to pass up where this is a fault
-    pub(crate) fn fault(self) -> u64
-        ensures { result ≡ fault_in self }
-    {
-        match self {
-            Judged::Lawful(_) => 0,
-            Judged::Faulty(number) => number,
-        }
-    }
-}
-
-// A code string: A, B, P and T, or the refusal with the number of the first bad code.
+// A refusal, "with the number of the first bad code".
 #[derive(Clone, Copy)]
-pub enum Verdict {
-    Accepted(Counts),
-    Refused { number: u64, code: u64 },
+pub struct BadCode {
+    pub refusal: Refusal,
+    pub code: u64,
 }
 
 // "Checking: 5 (with code number 0), then the first bad code .. accepted, it gives A and B", and P and T with them.
-pub fn check(code: &[u8]) -> Verdict
-    ensures value { result ≡ verdict_of (check code.now) }
+pub fn check(code: &[u8]) -> Result<Counts, BadCode>
+    ensures value { verdict_in result ≡ verdict_of (check code.now) }
     ensures result_value { report_in result ≡ report (check code.now) }
 {
     if Limit::CODE.most < code.len() {
-        return Verdict::Refused {
-            number: paper::refusal::OVER_LONG_CODE,
+        return Err(BadCode {
+            refusal: Refusal::OverLongCode,
             code: 0,
-        };
+        });
     }
-    if code.len() == 0 {
-        let counts = tallies::no_steps();
-        return Verdict::Accepted(counts);
+    if code.is_empty() {
+        return Ok(Counts::NONE);
     }
     strings::check_codes(code)
 }

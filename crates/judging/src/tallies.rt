@@ -4,7 +4,8 @@ ghost use Rattle.std.proofs.Common.{Fits};
 ghost use Rattle.std.specs.Int.{w64};
 ghost use Rattle.paper.specs.Bytes.{Bytes};
 ghost use Rattle.paper.specs.Sizes.{stack_most};
-ghost use Rattle.paper.specs.Checking.{counted, step_counts, shape};
+ghost use Rattle.paper.specs.Answers.{told, length_in};
+ghost use Rattle.paper.specs.Checking.{step_counts, shape};
 ghost use Rattle.codes.specs.Meaning.{elm_of};
 ghost use Rattle.codes.specs.Counting.{kind_of, elm_kind_of, ElmCounted};
 ghost use Rattle.judging.specs.Tallies.{
@@ -13,104 +14,86 @@ ghost use Rattle.judging.specs.Tallies.{
   kind_in,
   step_kind,
   shape_in,
-  no_steps,
   added,
   steps,
-  none_yet,
   entries_after,
+  onward,
   tally_after,
   judgement_of,
 };
 
-use crate::{Counts, Entries, Judged, Kind, Shape, Tally};
+use crate::{Counts, Kind, Shape, Tally};
 use codes::{Conversion, Elm, Operand};
-use paper::Limit;
+use paper::{Limit, Refusal};
+use std::ops::Add;
 
 const STACK: u64 = Limit::STACK.most as u64;
 
-fn counts(loads: u64, others: u64, patterns: u64, tests: u64) -> Counts
-    ensures { result ≡ counts_in (counted loads others patterns tests) }
-{
-    Counts {
-        loads,
-        others,
-        patterns,
-        tests,
-    }
-}
-
-pub(crate) fn no_steps() -> Counts
-    ensures { result ≡ no_steps }
-{
-    counts(0, 0, 0, 0)
-}
-
 // "A attribute loads and B other steps", and P codes with their tests: a step is one of these.
+#[tactic(auto, unfolding(paper::specs::Checking::step_counts))]
 pub(crate) fn one_step(kind: Kind) -> Counts
     ensures { result ≡ counts_in (step_counts (step_kind kind)) }
 {
     match kind {
-        Kind::Loading => counts(1, 0, 0, 0),
-        Kind::Testing(tests) => counts(0, 0, 1, tests),
-        Kind::Other => counts(0, 1, 0, 0),
+        Kind::Loading => Counts {
+            loads: 1,
+            ..Counts::NONE
+        },
+        Kind::Testing(tests) => Counts {
+            patterns: 1,
+            tests,
+            ..Counts::NONE
+        },
+        Kind::Other => Counts {
+            others: 1,
+            ..Counts::NONE
+        },
     }
 }
 
-pub(crate) fn together(x: Counts, y: Counts) -> Counts
-    requires { Fits w64 (steps x + steps y) }
-    ensures { result ≡ added x (counts_of y) }
-{
-    Counts {
-        loads: x.loads + y.loads,
-        others: x.others + y.others,
-        patterns: x.patterns + y.patterns,
-        tests: x.tests + y.tests,
+impl Add for Counts {
+    type Output = Counts;
+
+    ghost can_add = { λ x y. Fits w64 (steps x + steps y) };
+
+    ghost add_gives = { λ x y r. r ≡ added x (counts_of y) };
+
+    #[tactic(auto, unfolding(crate::specs::Tallies::added, crate::specs::Tallies::steps, paper::specs::Checking::together))]
+    fn add(self, more: Counts) -> Counts {
+        Counts {
+            loads: self.loads + more.loads,
+            others: self.others + more.others,
+            patterns: self.patterns + more.patterns,
+            tests: self.tests + more.tests,
+        }
     }
 }
 
 // "With T tests in the code": what the step of a code other than F is counted as.
+#[tactic(auto, unfolding(codes::specs::Counting::kind_of))]
 pub(crate) fn conversion_kind(conversion: Conversion) -> Kind
     ensures { result ≡ kind_in (kind_of conversion) }
 {
     match conversion {
-        Conversion::Plain(_) => Kind::Other,
-        Conversion::Mask(_) => Kind::Other,
-        Conversion::Date {
-            digits: _,
-            separator: _,
-        } => Kind::Other,
-        Conversion::Patterns { start: _, tests } => Kind::Testing(tests),
-    }
-}
-
-fn operand_kind(operand: Operand) -> Kind
-    ensures { result ≡ kind_in (elm_kind_of (Elm.Push operand)) }
-{
-    match operand {
-        Operand::Attribute {
-            number: _,
-            repeat: _,
-        } => Kind::Loading,
-        Operand::Literal { start: _, len: _ } => Kind::Other,
-        Operand::Previous => Kind::Other,
+        Conversion::Patterns { tests, .. } => Kind::Testing(tests),
+        _ => Kind::Other,
     }
 }
 
 // What the step of an elm is counted as.
+#[tactic(auto, unfolding(codes::specs::Counting::elm_kind_of))]
 fn kind(elm: Elm) -> Kind
     ensures { result ≡ kind_in (elm_kind_of elm) }
 {
     match elm {
-        Elm::Push(operand) => operand_kind(operand),
-        Elm::Binary(_) => Kind::Other,
-        Elm::Substring => Kind::Other,
-        Elm::Exchange => Kind::Other,
-        Elm::Duplicate => Kind::Other,
+        Elm::Push(Operand::Attribute { .. }) => Kind::Loading,
         Elm::Convert(conversion) => conversion_kind(conversion),
+        _ => Kind::Other,
     }
 }
 
 // "`P` takes one entry .., `_` takes .. two, a literal or LPV takes none"
+#[tactic(auto, unfolding(codes::specs::Meaning::elm_of, codes::specs::Meaning::operand_of, paper::specs::Checking::shape))]
 fn takes(elm: Elm) -> u64
     ensures { (string : Bytes) → result ≡ (shape (elm_of string elm)).takes }
 {
@@ -125,6 +108,7 @@ fn takes(elm: Elm) -> u64
 }
 
 // "`P` .. puts two, `_` .. puts two"
+#[tactic(auto, unfolding(codes::specs::Meaning::elm_of, codes::specs::Meaning::operand_of, paper::specs::Checking::shape))]
 fn puts(elm: Elm) -> u64
     ensures { (string : Bytes) → result ≡ (shape (elm_of string elm)).puts }
 {
@@ -151,66 +135,42 @@ fn shape(elm: Elm) -> Shape
     }
 }
 
-// "F starts with an empty stack."
-pub(crate) fn none_yet() -> Tally
-    ensures { result ≡ none_yet }
+// "takes more entries than are there, or would hold 17": refusal 7, and it stays; or the entries after an elm.
+#[tactic(auto, unfolding(crate::specs::Tallies::entries_after, crate::specs::Tallies::room))]
+fn entries(shape: Shape, held: Result<u64, Refusal>) -> Result<u64, Refusal>
+    requires { (length_in held ≤ stack_most) × (shape.puts ≤ 2) }
+    ensures { result ≡ onward held (entries_after shape) }
 {
-    let counts = no_steps();
-    Tally {
-        held: 0,
-        faulty: false,
-        counts,
-    }
-}
-
-// "takes more entries than are there, or would hold 17": a fault, and it stays.
-fn entries(shape: Shape, held: u64, faulty: bool) -> Entries
-    requires { (held ≤ stack_most) × (shape.puts ≤ 2) }
-    ensures { result ≡ entries_after shape held faulty }
-{
-    if faulty {
-        return Entries { held, faulty: true };
-    }
+    let held = held?;
     if held < shape.takes {
-        return Entries { held, faulty: true };
+        return Err(Refusal::StackFault);
     }
     let after = held - shape.takes + shape.puts;
     if STACK < after {
-        return Entries { held, faulty: true };
+        return Err(Refusal::StackFault);
     }
-    Entries {
-        held: after,
-        faulty: false,
-    }
+    Ok(after)
 }
 
 // One elm more.
 pub(crate) fn tally_after(tally: Tally, elm: Elm) -> Tally
-    requires { (tally.held ≤ stack_most) × Fits w64 (steps tally.counts + steps (counts_in (step_counts (elm_kind_of elm)))) }
+    requires { (length_in tally.held ≤ stack_most) × Fits w64 (steps tally.counts + steps (counts_in (step_counts (elm_kind_of elm)))) }
     ensures { (string : Bytes) → ElmCounted string elm → result ≡ tally_after (elm_of string elm) tally }
 {
     let shape = shape(elm);
-    let entries = entries(shape, tally.held, tally.faulty);
-    let so_far = tally.counts;
-    let kind = shape.kind;
-    let counts = together(so_far, one_step(kind));
-    Tally {
-        held: entries.held,
-        faulty: entries.faulty,
-        counts,
-    }
+    let held = entries(shape, tally.held);
+    let counts = tally.counts + one_step(shape.kind);
+    Tally { held, counts }
 }
 
 // A whole F code: its faults in their order, 7 and then "an F code must end with exactly one entry"; and then its steps.
-pub(crate) fn judgement(tally: Tally) -> Judged
-    ensures { result ≡ judgement_of tally }
+#[tactic(auto, unfolding(crate::specs::Tallies::judgement_of))]
+pub(crate) fn judgement(tally: Tally) -> Result<Counts, Refusal>
+    ensures { told result ≡ judgement_of tally }
 {
-    if tally.faulty {
-        return Judged::Faulty(paper::refusal::STACK_FAULT);
+    let held = tally.held?;
+    if held != 1 {
+        return Err(Refusal::LeftOverEntries);
     }
-    if tally.held != 1 {
-        return Judged::Faulty(paper::refusal::LEFT_OVER_ENTRIES);
-    }
-    let counts = tally.counts;
-    Judged::Lawful(counts)
+    Ok(tally.counts)
 }

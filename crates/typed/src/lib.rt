@@ -3,48 +3,42 @@
 
 ghost use Rattle.std.specs.Prelude.{◌≡◌};
 ghost use Rattle.std.proofs.Math.Option.{some};
+ghost use Rattle.paper.specs.Answers.{told_by};
 ghost use Rattle.paper.specs.Bytes.{Bytes};
 ghost use Rattle.paper.specs.Codes.{single};
 ghost use Rattle.paper.specs.TypedDates.{typed_by, typed_date};
+ghost use Rattle.numbers.specs.Forms.{whole};
 ghost use Rattle.codes.specs.Meaning.{conversion_of};
-ghost use Rattle.dates.specs.Dated.{typed_of};
 
 use codes::Conversion;
-use dates::TypedDay;
-use dates::typing::typed_date as typed_date_by;
-use grammar::{Head, ReadHead};
-use paper::Limit;
+use grammar::Head;
+use numbers::Number;
+use paper::{Limit, Refusal};
 
 // "6 if the string is not exactly one D code", whatever string the code was read from
-fn typed_by(conversion: Conversion, text: &[u8]) -> TypedDay
-    ensures { (string : Bytes) → result ≡ typed_of (typed_by (some (single (conversion_of string conversion))) text.now) }
+#[tactic(auto, unfolding(paper::specs::TypedDates::typed_by, codes::specs::Meaning::conversion_of))]
+fn typed_by(conversion: Conversion, text: &[u8]) -> Result<Number, Refusal>
+    ensures { (string : Bytes) → told_by whole result ≡ typed_by (some (single (conversion_of string conversion))) text.now }
 {
-    match conversion {
-        Conversion::Plain(_) => TypedDay::Refused(paper::refusal::NOT_IN_GRAMMAR),
-        Conversion::Mask(_) => TypedDay::Refused(paper::refusal::NOT_IN_GRAMMAR),
-        Conversion::Date { digits, separator } => typed_date_by(text, digits, separator),
-        Conversion::Patterns { start: _, tests: _ } => TypedDay::Refused(
-            paper::refusal::NOT_IN_GRAMMAR,
-        ),
-    }
+    let Conversion::Date { digits, separator } = conversion else {
+        return Err(Refusal::NotInGrammar);
+    };
+    dates::typing::typed_date(text, digits, separator)
 }
 
 // "A typed date: 5, then 6 if the string is not exactly one D code, then 12."
-pub fn typed_date(code: &[u8], text: &[u8]) -> TypedDay
-    ensures { result ≡ typed_of (typed_date code.now text.now) }
+pub fn typed_date(code: &[u8], text: &[u8]) -> Result<Number, Refusal>
+    ensures { told_by whole result ≡ typed_date code.now text.now }
 {
+    // these two tests stand in algebra too: shared, they would be a function, a contract and a `?` in place of six lines
     if Limit::CODE.most < code.len() {
-        return TypedDay::Refused(paper::refusal::OVER_LONG_CODE);
+        return Err(Refusal::OverLongCode);
     }
     if lent::marked(code) {
-        return TypedDay::Refused(paper::refusal::NOT_IN_GRAMMAR);
+        return Err(Refusal::NotInGrammar);
     }
-    let read = grammar::heads::head(code);
-    let ReadHead::Head(head) = read else {
-        return TypedDay::Refused(read.refusal());
-    };
-    let Head::Single(conversion) = head else {
-        return TypedDay::Refused(paper::refusal::NOT_IN_GRAMMAR);
+    let Head::Single(conversion) = grammar::heads::head(code)? else {
+        return Err(Refusal::NotInGrammar);
     };
     typed_by(conversion, text)
 }

@@ -1,30 +1,35 @@
--- `strings::judge` meets its contract: what the head of the code says, since it has no mark.
-use mathlib.Core.Path.{◌≡◌, ap, ◌∙◌}
+-- `strings::judge` meets its contract: a mark in it, or what its head says.
+use mathlib.Core.Path.{sym, ap, ◌∙◌}
 use mathlib.Core.Option.{some}
 use native.Mathlib.Omega.{arith}
+use Rattle.std.proofs.lemmas.Result.{err_from_is_err_and}
 use Rattle.grammar.specs.Heads.{head}
-use Rattle.readers.proofs.Answering.{read_is, refused_read}
-use Rattle.grammar.proofs.Answering.{heads}
 use Rattle.grammar.proofs.HeadReads.{head_first}
-use Rattle.judging.proofs.Judging.{judged_function, judged_single, judged_bad}
+use Rattle.judging.proofs.Taken.{head_is, no_head}
+use Rattle.judging.proofs.Judging.{judged_function, judged_single, judged_bad, judged_marked}
 use Rattle.judging.proofs.strings.judge.Goals as goal
 
-pub returns-in_default : goal.returns-in_default
-returns-in_default c =
-    let w = refused_read heads c.refusal.ensures c.head-read.ensures c.in_default.is in
-    rw w.1 (judged_bad _ c.requires w.0)
+pub returns-then-marked : goal.returns-then-marked
+returns-then-marked c = judged_marked _ (sym c.marked.ensures ∙ c.if-marked.true)
+
+pub returns-in_err-first : goal.returns-in_err-first
+returns-in_err-first c =
+    let p = err_from_is_err_and c.from_residual.result c.from_residual.ensures.1 in
+    let w = no_head (head c.args.code.now) c.in_err-first.ensures in
+    rw (p.1, p.2, w.1) (judged_bad _ (sym c.marked.ensures ∙ c.if-marked.false) w.0)
 
 pub judge_elms-requires : goal.judge_elms-requires
 judge_elms-requires c =
-    let said : head c.args.code.now ≡ some c.in-Head.head = read_is heads c.head-read.ensures c.in-Head.is in
-    let h = head_first _ _ (said ∙ ap some c.in-Function.is) in omega arith
+    let h = head_first c.args.code.now _
+    (head_is (head c.args.code.now) c.in_ok-first.ensures ∙ ap some c.in-Function.is) in
+    omega (arith, h)
 
 pub returns-in-Function : goal.returns-in-Function
 returns-in-Function c =
-    let said : head c.args.code.now ≡ some c.in-Head.head = read_is heads c.head-read.ensures c.in-Head.is in
-    c.judge_elms.ensures ∙ judged_function _ c.requires (said ∙ ap some c.in-Function.is)
+    c.judge_elms.ensures ∙ judged_function _ (sym c.marked.ensures ∙ c.if-marked.false)
+    (head_is (head c.args.code.now) c.in_ok-first.ensures ∙ ap some c.in-Function.is)
 
 pub returns-in-Single : goal.returns-in-Single
 returns-in-Single c =
-    let said : head c.args.code.now ≡ some c.in-Head.head = read_is heads c.head-read.ensures c.in-Head.is in
-    judged_single _ c.requires (said ∙ ap some c.in-Single.is) c.conversion_kind.ensures c.one_step.ensures
+    judged_single _ (sym c.marked.ensures ∙ c.if-marked.false)
+    (head_is (head c.args.code.now) c.in_ok-first.ensures ∙ ap some c.in-Single.is) c.conversion_kind.ensures c.one_step.ensures

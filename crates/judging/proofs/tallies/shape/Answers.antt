@@ -8,4 +8,7 @@ use Rattle.judging.proofs.tallies.shape.Goals as goal
 
 pub returns : goal.returns
 returns c =
-    record { value = λ string counted. rw (c.kind-kind.ensures, ← counted_elm string c.args.elm counted, c.takes.ensures string, c.puts.ensures string); puts_bound = (omega (arith, c.puts.ensures [], puts_small (elm_of [] c.args.elm)), c.kind-kind.ensures) }
+    record {
+      value = λ string counted. rw (c.kind-kind.ensures, ← counted_elm string c.args.elm counted, c.takes.ensures string, c.puts.ensures string);
+      puts_bound = (omega (arith, c.puts.ensures [], puts_small (elm_of [] c.args.elm)), c.kind-kind.ensures);
+    }
