@@ -1,4 +1,5 @@
 -- A code's numbers are within what the crates that give its text ask. Assumes nothing.
+use Rattle.std.specs.Prelude.{Option as Maybe}
 use Prim.Native.Nat.{ℕ, ◌+◌, ◌*◌, ◌≤◌}
 use mathlib.Core.Path.{◌≡◌, refl, ap}
 use native.Mathlib.Omega.{arith}
@@ -12,7 +13,6 @@ use Rattle.paper.specs.Steps.{charged}
 use Rattle.paper.proofs.Splitting.{told}
 use Rattle.paper.proofs.Weights.{patterns_told}
 use Rattle.codes.specs.declared.Mask.{Mask}
-use Rattle.codes.specs.declared.Separator.{Separator}
 use Rattle.codes.specs.declared.Conversion.{Conversion}
 use Rattle.codes.specs.Meaning.{mask_of, conversion_of}
 use Rattle.codes.specs.Counting.{kind_of, Counted, patterns_counted}
@@ -25,7 +25,7 @@ use Rattle.giving.specs.Bounds.{ConversionWithin, plain_within, mask_within, dat
 pub mask_bounded : {code : Bytes} {m : Mask} → ConversionWithin code (Conversion.Mask m) → Bounded (mask_of m)
 mask_bounded (mask_within h) = h
 
-pub date_digits : {code : Bytes} {n : ℕ} {s : Separator} → ConversionWithin code (Conversion.Date n s) → n ≤ 4
+pub date_digits : {code : Bytes} {n : ℕ} {s : Maybe ℕ} → ConversionWithin code (Conversion.Date n s) → n ≤ 4
 date_digits (date_within h) = h
 
 -- a P code's patterns can be read, and have few tests

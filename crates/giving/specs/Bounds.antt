@@ -1,11 +1,11 @@
 -- What the grammar keeps a code's numbers within: the functions that give its text take no others.
 use Rattle.std.specs.Prelude.{ℕ, ◌+◌, ◌*◌, ◌≤◌, length}
+use Rattle.std.specs.Prelude.{Option as Maybe}
 use Rattle.paper.specs.Bytes.{Bytes}
 use Rattle.paper.specs.Sizes.{code_most, entry_most}
 use Rattle.paper.specs.Codes.{Kind}
 use Rattle.codes.specs.declared.Mask.{Mask}
 use Rattle.codes.specs.declared.Plain.{Plain}
-use Rattle.codes.specs.declared.Separator.{Separator}
 use Rattle.codes.specs.declared.Conversion.{Conversion}
 use Rattle.codes.specs.Meaning.{mask_of}
 use Rattle.codes.specs.Counting.{Counted}
@@ -15,7 +15,7 @@ use Rattle.masks.specs.Bounds.{Bounded}
 pub data ConversionWithin (code : Bytes) : Conversion → Type 0 where
   plain_within : {p : Plain} → ConversionWithin code (Conversion.Plain p)
   mask_within : {m : Mask} → Bounded (mask_of m) → ConversionWithin code (Conversion.Mask m)
-  date_within : {n : ℕ} {s : Separator} → n ≤ 4 → ConversionWithin code (Conversion.Date n s)
+  date_within : {n : ℕ} {s : Maybe ℕ} → n ≤ 4 → ConversionWithin code (Conversion.Date n s)
   patterns_within : {start tests : ℕ} → Counted code (Conversion.Patterns start tests) → length code ≤ code_most
       → ConversionWithin code (Conversion.Patterns start tests)
 

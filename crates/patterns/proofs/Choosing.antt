@@ -1,20 +1,21 @@
 -- Patterns tried test by test, and one after the other: what is told of those still to be read is told of all. Assumes nothing.
-use Prim.Native.Nat.{ℕ, zero, suc, ◌+◌, ◌≤◌, ◌<◌}
+use Prim.Native.Nat.{ℕ, ◌+◌, ◌≤◌, ◌<◌}
 use native.Mathlib.Omega.{arith}
 use mathlib.Core.Path.{◌≡◌, refl, sym, ap, ◌∙◌}
 use mathlib.Core.Bool.{Bool, true, false}
 use mathlib.Core.Logic.{⊎_elim}
-use mathlib.Core.List.{List, [], ◌∷◌}
+use mathlib.Core.List.{List, [], ◌∷◌, ◌++◌}
 use mathlib.Core.Option.{Option, none, some}
-use lib.ListN.{length, take, drop, get_or, set, replicate, length-replicate}
-use lib.Seq.{get_or-set_same, get_or-set_other, length-take-le}
+use lib.ListN.{length, drop}
 use lib.Dec.{eqb}
-use borrow.Author.Tests.{eqb-true, eqb-false, ne_eqb}
+use borrow.Author.Tests.{eqb-true, eqb-false, eq-eqb}
 use Rattle.paper.specs.Bytes.{Bytes}
 use Rattle.paper.specs.Sizes.{entry_most}
 use Rattle.paper.specs.Refusals.{given}
 use Rattle.paper.specs.Steps.{limited}
-use Rattle.paper.specs.declared.Given.TheVariants.{Length}
+use Rattle.std.specs.Prelude.{Ok, Err, if◌then◌else◌}
+use Rattle.paper.specs.declared.Refusal.{Refusal}
+use Rattle.paper.specs.declared.Read.{Read}
 use Rattle.paper.specs.Codes as paper
 use Rattle.paper.specs.Grammar.{tests, pattern, pattern_list}
 use Rattle.paper.specs.Patterns.{passes, some_passes, patterns_give}
@@ -23,19 +24,45 @@ use Rattle.paper.proofs.Patterns.{cut_by, passes_from, nothing, passes_forward}
 use Rattle.paper.proofs.Truths.{ltb_or}
 use Rattle.paper.proofs.Limits.{limited_within, Answered, gives_bytes}
 use Rattle.paper.proofs.Predicates.{reads, reads_not, none_of, and_all}
-use Rattle.lent.specs.Over.{over}
-use Rattle.lent.proofs.Laws.{over_front, length_over}
 use Rattle.codes.specs.declared.Test.{Test}
 use Rattle.codes.specs.Meaning.{test_of, patterns_read, patterns_at}
-use Rattle.readers.specs.Places.{Peeked, byte_at, after, numeral}
+use Rattle.readers.specs.Places.{Peeked, byte_at, after, choose_or, this, numeral}
 use Rattle.readers.specs.Reading as place
+use Rattle.readers.specs.Answers.{read}
 use Rattle.readers.proofs.Bytes.{byte_past, after_inside}
 use Rattle.readers.proofs.Quotes.{quoted_inside}
 use Rattle.readers.proofs.Ever.{Ever, read_has, follow_then, follow_any, or_any, choose_reads}
-use Rattle.readers.proofs.PatternReads.{tests_none, tests_last, tests_more, pattern_open, pattern_none, patterns_none, patterns_last, patterns_more}
-use Rattle.patterns.specs.Reach.{flag, Marks, Moved, TestWithin}
+use Rattle.readers.proofs.PatternReads.{tests_none, tests_last, tests_more, opened, pattern_is, patterns_none, patterns_last, patterns_more}
+use Rattle.patterns.specs.Reach.{Marks, Moved, TestWithin}
 use Rattle.patterns.specs.Readable.{Readable, readable, Judged, judged, Decided, decided}
-use Rattle.patterns.proofs.Marking.{wiped_at}
+
+-- what a reader answered
+
+pub read_there : {A : Type 0} {r : Read A} (o : Option (A × ℕ)) → Ok r ≡ read o → o ≡ some (r.value, r.next)
+read_there {r = r} (some p) h = let e : r ≡ record { value = p.0; next = p.1 } = cc in rw e refl
+read_there none h = cc
+
+pub read_nowhere : {A : Type 0} {n : Refusal} (o : Option (A × ℕ)) → Err n ≡ read o → o ≡ none
+read_nowhere (some p) h = cc
+read_nowhere none h = refl
+
+-- this byte and no other: it stands there, or another does
+this_or_not : (c : ℕ) (code : Bytes) (at : ℕ) (t : Bool) → eqb c (byte_at code at) ≡ t → this c code at ≡ (if t then some (tt, after code at) else none)
+unfolding this choose_or
+this_or_not c code at t e = rw e refl
+
+this_there : (c : ℕ) (code : Bytes) (at : ℕ) {m : ℕ} → this c code at ≡ some (tt, m) → Peeked code at c m
+this_there c code at {m} h = go (eqb c (byte_at code at)) refl
+  where
+    go : (t : Bool) → eqb c (byte_at code at) ≡ t → Peeked code at c m
+    go true e =
+        let told = this_or_not c code at true e in
+        let both : ◌≡◌ {A = Unit {0} × ℕ} (tt, m) (tt, after code at) = cc in
+        record { stands = eqb-true c _ e; leads = ap (λ (r : Unit {0} × ℕ). r.1) both }
+    go false e = absurd (let told = this_or_not c code at false e in let z : ◌≡◌ {A = ℕ} 0 1 = cc in omega arith)
+
+this_not : (c : ℕ) (code : Bytes) (at : ℕ) → this c code at ≡ none → byte_at code at ≡ c → ⊥
+this_not c code at h f = let told = this_or_not c code at true (eq-eqb c _ (sym f)) in let z : ◌≡◌ {A = ℕ} 0 1 = cc in omega arith
 
 -- ---- a literal that was read stands within the code
 
@@ -45,7 +72,7 @@ module _ (s : Bytes) where
   literal_stands q n = follow_then _ (quoted_inside q s n) (λ len h k. reads h)
 
   test_reads : Ever (TestWithin s) s place.test
-  unfolding place.test place.count_test place.quoted_test
+  unfolding place.count_test place.quoted_test
   test_reads n =
       or_any (numeral 2 s n) _ _ (λ v k. follow_any (place.class_letter s k) _ (λ c j. reads tt))
       (choose_reads _ (and_all (literal_stands 39) (and_all (literal_stands 34) none_of)) (λ n. reads_not) n)
@@ -54,23 +81,6 @@ module _ (s : Bytes) where
   test_stands at e = read_has (test_reads at) e
 
 -- ---- one pattern, test by test
-
--- before the first test
-pub front_marks : (e flags : Bytes) → length e < length flags → Marks nothing e (set (over flags 0 (replicate (length e + 1) 0)) 0 1)
-front_marks e flags room = record { marks = marks }
-  where
-    wiped : Bytes
-    wiped = over flags 0 (replicate (length e + 1) 0)
-
-    size : length wiped ≡ length flags
-    size = length_over flags 0 (replicate (length e + 1) 0) (omega (arith, length-replicate {A = ℕ} (length e + 1) 0))
-
-    marks : (j : ℕ) → j ≤ length e → get_or (set wiped 0 1) j 0 ≡ flag (nothing (take j e))
-    marks zero l = get_or-set_same wiped 0 1 0 (omega (arith, size))
-    marks (suc k) l =
-        get_or-set_other wiped 0 (suc k) 1 0 (λ z. omega arith)
-        ∙ wiped_at flags (length e + 1) (suc k) (omega arith)
-        ∙ ap flag (sym (ne_eqb (length (take (suc k) e)) 0 (λ z. omega (arith, length-take-le (suc k) e l))))
 
 -- from what stands before, the tests at place `at` tell what all tests tell
 pub record Trying (code e : Bytes) (from at : ℕ) (flags : Bytes) : Type 0 where
@@ -118,19 +128,17 @@ pub record Choosing (code e : Bytes) (start at : ℕ) : Type 0 where
   pub leads : (passed : Bool) → Decided (λ ps. some_passes ps e) passed (pattern_list (drop at code))
       → Decided (λ ps. some_passes ps e) passed (pattern_list (drop start code))
 
-pub choosing_start : (code e : Bytes) (start : ℕ) → Choosing code e start start
-choosing_start code e start = record { leads = λ passed d. d }
-
-module _ {code e : Bytes} {start at b m : ℕ} (x : Choosing code e start at) (p : Peeked code at b m) where
+module _ {code e : Bytes} {start at : ℕ} (x : Choosing code e start at) where
   -- no parenthesis
-  pub choosing_none : (passed : Bool) → (b ≡ 40 → ⊥) → Decided (λ ps. some_passes ps e) passed (pattern_list (drop start code))
-  choosing_none passed h = x.leads passed (rw (patterns_none code at (pattern_none code at p h)) Decided.unread)
+  pub choosing_none : (passed : Bool) → this 40 code at ≡ none → Decided (λ ps. some_passes ps e) passed (pattern_list (drop start code))
+  choosing_none passed h = x.leads passed (rw (patterns_none code at (pattern_is code at ∙ ap (opened code at) h)) Decided.unread)
 
-  unreadable : (passed : Bool) → b ≡ 40 → tests (drop m code) ≡ none → Decided (λ ps. some_passes ps e) passed (pattern_list (drop at code))
-  unreadable passed h none_read = rw (patterns_none code at (pattern_open code at p h ∙ none_read)) Decided.unread
+module _ {code e : Bytes} {start at m : ℕ} (x : Choosing code e start at) (p : this 40 code at ≡ some (tt, m)) where
+  behind : pattern (drop at code) ≡ tests (drop m code)
+  behind = pattern_is code at ∙ ap (opened code at) p
 
-  read : {ts : paper.Pattern} (n : ℕ) → b ≡ 40 → tests (drop m code) ≡ some (ts, drop n code) → pattern (drop at code) ≡ some (ts, drop n code)
-  read n h e = pattern_open code at p h ∙ e
+  unreadable : (passed : Bool) → tests (drop m code) ≡ none → Decided (λ ps. some_passes ps e) passed (pattern_list (drop at code))
+  unreadable passed none_read = rw (patterns_none code at (behind ∙ none_read)) Decided.unread
 
   onward : (ts : paper.Pattern) {passed : Bool} {o : Option (List paper.Pattern × Bytes)} → passes ts e ≡ false → Decided (λ ps. some_passes ps e) passed o
       → Decided (λ ps. some_passes ps e) passed (onto ts o)
@@ -139,10 +147,10 @@ module _ {code e : Bytes} {start at b m : ℕ} (x : Choosing code e start at) (p
   onward ts f Decided.unread = Decided.unread
 
   -- one passes
-  pub choosing_passed : {passed : Bool} {n : ℕ} → b ≡ 40 → passed ≡ true → Judged (λ ts. passes ts e) code passed n (tests (drop m code))
+  pub choosing_passed : {passed : Bool} {n : ℕ} → passed ≡ true → Judged (λ ts. passes ts e) code passed n (tests (drop m code))
       → Decided (λ ps. some_passes ps e) true (pattern_list (drop start code))
   unfolding some_passes
-  choosing_passed {passed} {n} h t j = x.leads true (go j refl)
+  choosing_passed {passed} {n} t j = x.leads true (go j refl)
     where
       through : (ts : paper.Pattern) (o : Option (List paper.Pattern × Bytes)) → passes ts e ≡ true → Decided (λ ps. some_passes ps e) true (onto ts o)
       through ts none f = Decided.unread
@@ -158,37 +166,39 @@ module _ {code e : Bytes} {start at b m : ℕ} (x : Choosing code e start at) (p
 
       go : {o : Option (paper.Pattern × Bytes)} → Judged (λ ts. passes ts e) code passed n o → tests (drop m code) ≡ o
           → Decided (λ ps. some_passes ps e) true (pattern_list (drop at code))
-      go (judged {ts = ts} d q) r = by ts (eqb (byte_at code n) 59) (sym d ∙ t) (read n h (r ∙ ap (λ (l : Bytes). some (ts, l)) q)) refl
-      go Judged.unread r = unreadable true h r
+      go (judged {ts = ts} d q) r = by ts (eqb (byte_at code n) 59) (sym d ∙ t) (behind ∙ (r ∙ ap (λ (l : Bytes). some (ts, l)) q)) refl
+      go Judged.unread r = unreadable true r
 
-  module _ {passed : Bool} {n c k : ℕ} (h : b ≡ 40) (f : passed ≡ false) (j : Judged (λ ts. passes ts e) code passed n (tests (drop m code)))
-      (ahead : Peeked code n c k) where
+  module _ {passed : Bool} {n : ℕ} (f : passed ≡ false) (j : Judged (λ ts. passes ts e) code passed n (tests (drop m code))) where
     -- none is left
-    pub choosing_last : (c ≡ 59 → ⊥) → Decided (λ ps. some_passes ps e) false (pattern_list (drop start code))
+    pub choosing_last : this 59 code n ≡ none → Decided (λ ps. some_passes ps e) false (pattern_list (drop start code))
     unfolding some_passes
     choosing_last w = x.leads false (go j refl)
       where
         go : {o : Option (paper.Pattern × Bytes)} → Judged (λ ts. passes ts e) code passed n o → tests (drop m code) ≡ o
             → Decided (λ ps. some_passes ps e) false (pattern_list (drop at code))
         go (judged {ts = ts} d q) r =
-            rw (patterns_last code at (read n h (r ∙ ap (λ (l : Bytes). some (ts, l)) q)) ahead w)
+            rw (patterns_last code at (behind ∙ (r ∙ ap (λ (l : Bytes). some (ts, l)) q)) (record { stands = refl; leads = refl }) (this_not 59 code n w))
             (decided {ps = ts ∷ []} (rw (sym d ∙ f)))
-        go Judged.unread r = unreadable false h r
+        go Judged.unread r = unreadable false r
 
-    pub choosing_next : c ≡ 59 → Choosing code e start k
-    choosing_next w = record { leads = λ passed d. x.leads passed (go d j refl) }
+    pub choosing_next : {k : ℕ} → this 59 code n ≡ some (tt, k) → Choosing code e start k
+    choosing_next {k} w = record { leads = λ passed d. x.leads passed (go d j refl) }
       where
         go : {v : Bool} {o : Option (paper.Pattern × Bytes)} → Decided (λ ps. some_passes ps e) v (pattern_list (drop k code))
             → Judged (λ ts. passes ts e) code passed n o
             → tests (drop m code) ≡ o → Decided (λ ps. some_passes ps e) v (pattern_list (drop at code))
-        go g (judged {ts = ts} d q) r = rw (patterns_more code at (read n h (r ∙ ap (λ (l : Bytes). some (ts, l)) q)) ahead w) (onward ts (sym d ∙ f) g)
-        go g Judged.unread r = unreadable _ h r
+        go g (judged {ts = ts} d q) r =
+            rw (patterns_more code at (behind ∙ (r ∙ ap (λ (l : Bytes). some (ts, l)) q)) (this_there 59 code n w) refl)
+            (onward ts (sym d ∙ f) g)
+        go g Judged.unread r = unreadable _ r
 
 -- a byte that is no mark stands within the code
-pub peeked_on : {code : Bytes} {at b n : ℕ} → Peeked code at b n → (b ≡ 255 → ⊥) → (at < n) × (n ≤ length code)
-peeked_on {code} {at} p h =
+pub this_on : (c : ℕ) (code : Bytes) (at : ℕ) {m : ℕ} → c < 255 → this c code at ≡ some (tt, m) → (at < m) × (m ≤ length code)
+this_on c code at h e =
+    let p = this_there c code at e in
     ⊎_elim (λ l. (omega (arith, p.leads, after_inside code at l), omega (arith, p.leads, after_inside code at l)))
-    (λ u. absurd (h (p.stands ∙ sym (byte_past code at u)))) (ltb_or at (length code))
+    (λ u. absurd (omega (arith, p.stands, byte_past code at u))) (ltb_or at (length code))
 
 -- ---- the answer
 
@@ -209,11 +219,11 @@ module _ {code : Bytes} {start : ℕ} (e : Bytes) (r : Readable code start) wher
       go (readable w) d = told d w
 
   module _ (held : Bytes) {passed : Bool} (fits : length e ≤ entry_most) (d : Decided (λ ps. some_passes ps e) passed (pattern_list (drop start code))) where
-    pub gives_element : {out : Bytes} → passed ≡ true → out ≡ over held 0 e
-        → Answered (limited entry_most (given (patterns_give (patterns_at code start) e))) held out (Length (length e))
+    pub gives_element : {out : Bytes} → passed ≡ true → out ≡ e ++ drop (length e) held
+        → Answered (limited entry_most (given (patterns_give (patterns_at code start) e))) held out (Ok (length e))
     unfolding patterns_give
-    gives_element h o = gives_bytes held e (limited_within entry_most (rw (sym (some_told d) ∙ h)) fits) refl (o ∙ over_front held e)
+    gives_element h o = gives_bytes held e (limited_within entry_most (rw (sym (some_told d) ∙ h)) fits) refl o
 
-    pub gives_nothing : passed ≡ false → Answered (limited entry_most (given (patterns_give (patterns_at code start) e))) held held (Length 0)
+    pub gives_nothing : passed ≡ false → Answered (limited entry_most (given (patterns_give (patterns_at code start) e))) held held (Ok 0)
     unfolding patterns_give
     gives_nothing h = gives_bytes held [] (limited_within entry_most (rw (sym (some_told d) ∙ h)) (omega arith)) refl refl

@@ -6,13 +6,15 @@ use native.Mathlib.Numerals.{add-one}
 use native.Mathlib.Omega.{arith}
 use mathlib.Core.Path.{◌≡◌, refl, sym, ap, ◌∙◌}
 use mathlib.Core.Logic.{◌⊎◌, inl, inr}
-use mathlib.Core.Bool.{Bool, true, false, ◌&&◌, ◌||◌, or-false, and-true, and-false}
+use mathlib.Core.Bool.{Bool, true, false, ◌&&◌, ◌||◌, or-false, and-true}
 use mathlib.Core.List.{[], ◌∷◌, ◌++◌}
-use lib.ListN.{length, take, drop, get_or, set, replicate, length-set, length-drop, length-replicate, get_or-replicate, get_or-append, drop_of_length-le}
-use lib.Seq.{drop-cons, get_or-set_same, get_or-set_other, get_or-append-add, get_or-drop, drop-length, take-length}
+use lib.ListN.{length, take, drop, get_or, set, replicate, length-set, length-drop, length-replicate, get_or-replicate, get_or-append}
+use lib.Seq.{drop-cons, get_or-set_same, get_or-set_other, get_or-append-add, get_or-drop, drop-length, take-length, length-take-le}
 use lib.Dec.{leb, eqb}
 use lib.Bits.{bit_and, bit_or}
-use borrow.Author.Tests.{eq-eqb, ne_eqb, le-leb}
+use lib.Pointwise.{pointwise}
+use borrow.Author.Tests.{eq-eqb, ne_eqb, eqb-true, eqb-false, le-leb}
+use Rattle.std.proofs.lemmas.List.{take_all}
 use Rattle.paper.specs.Bytes.{Bytes, same_bytes}
 use Rattle.paper.specs.Codes.{Class, Test}
 use Rattle.paper.specs.Patterns.{of_class, every, meets}
@@ -42,9 +44,6 @@ pub record Extended (c : Class) (e flags : Bytes) (j : ℕ) (f : Bytes) (carried
   pub rest : (k : ℕ) → j ≤ k → get_or f k 0 ≡ get_or flags k 0
   pub done : (before : Bytes → Bool) → Marks before e flags → (k : ℕ) → k < j → get_or f k 0 ≡ flag (cut_by before (Test.so_many 0 c) (take k e))
   pub leads : (before : Bytes → Bool) → Marks before e flags → carried ≡ flag (crossed before c e j)
-
-pub extended_start : (c : Class) (e flags : Bytes) → Extended c e flags 0 flags 0
-extended_start c e flags = record { size = refl; rest = λ k h. refl; done = λ before m k h. absurd (omega arith); leads = λ before m. refl }
 
 flag_or : (a b : Bool) → bit_or (flag a) (flag b) ≡ flag (a || b)
 flag_or true true = refl
@@ -128,6 +127,11 @@ wiped_past d n k =
     ∙ get_or-append-add (replicate n 0) (drop (length {A = ℕ} (replicate n 0)) d) k 0
     ∙ get_or-drop (length {A = ℕ} (replicate n 0)) d k 0
     ∙ ap (λ (i : ℕ). get_or d i 0) (sym s))
+
+-- and as the library fills a part in front
+pub wiped_by : {part : Bytes} (d : Bytes) (n : ℕ) → n ≤ length d → part ≡ replicate (length (take n d)) 0 → part ++ drop n d ≡ over d 0 (replicate n 0)
+wiped_by d n h e =
+    rw (e, length-take-le n d h) (sym (over_front d (replicate n 0) ∙ ap (λ (m : ℕ). replicate n 0 ++ drop m d) (length-replicate {A = ℕ} n 0)))
 
 module _ (t : Test) (m : ℕ) (good : Bytes → Bool) (fixed : (piece : Bytes) → meets t piece ≡ (eqb (length piece) m && good piece)) (e : Bytes) {flags : Bytes}
     (room : length e < length flags) where
@@ -215,41 +219,43 @@ running_next {c} {count} {e} {flags} {f} {r} {r'} {i} {v} j x back some room lon
 
 -- ---- a literal
 
-module _ (a b : Bytes) (alike : length a ≡ length b) (k : ℕ) (inside : k < length a) (other : Bool)
-    (told : same_bytes a b ≡ (other && same_bytes (drop k a) (drop k b))) where
-  same_here : same_bytes a b ≡ (other && (eqb (get_or a k 0) (get_or b k 0) && same_bytes (drop (k + 1) a) (drop (k + 1) b)))
-  unfolding same_bytes
-  same_here = told ∙ rw (next a k inside, next b k (omega arith))
+eqb_turned : (x y : ℕ) → eqb x y ≡ eqb y x
+eqb_turned x y = go (eqb x y) refl
+  where
+    go : (t : Bool) → eqb x y ≡ t → t ≡ eqb y x
+    go true e = sym (eq-eqb y x (sym (eqb-true x y e)))
+    go false e = sym (ne_eqb y x (λ h. eqb-false x y e (sym h)))
 
-  pub same_next : get_or a k 0 ≡ get_or b k 0 → same_bytes a b ≡ (other && same_bytes (drop (k + 1) a) (drop (k + 1) b))
-  same_next h = rw (eq-eqb (get_or a k 0) (get_or b k 0) h) at same_here
-
-  pub same_other : (get_or a k 0 ≡ get_or b k 0 → ⊥) → same_bytes a b ≡ false
-  same_other h = rw (ne_eqb (get_or a k 0) (get_or b k 0) h) at same_here ∙ and-false other
-
-pub same_all : (a b : Bytes) (k : ℕ) (other : Bool) → length a ≡ length b → length a ≤ k
-    → same_bytes a b ≡ (other && same_bytes (drop k a) (drop k b)) → other ≡ same_bytes a b
+-- the library's test of two slices
+same_pointwise : (a b : Bytes) → pointwise eqb b a ≡ same_bytes a b
 unfolding same_bytes
-same_all a b k other l h told = sym (told ∙ rw (drop_of_length-le a h, drop_of_length-le b {i = k} (omega arith)) (and-true other))
+same_pointwise [] [] = refl
+same_pointwise [] (y ∷ b) = refl
+same_pointwise (x ∷ a) [] = refl
+same_pointwise (x ∷ a) (y ∷ b) = rw (eqb_turned y x) (ap (λ (t : Bool). eqb x y && t) (same_pointwise a b))
 
-pub first_differs : (text e : Bytes) (i : ℕ) → 0 < length text → i < length e → (get_or e i 0 ≡ get_or text 0 0 → ⊥)
-    → same_bytes (take (length text) (drop i e)) text ≡ false
+pointwise_same : (a b : Bytes) → pointwise eqb a b ≡ same_bytes a b
+unfolding same_bytes
+pointwise_same [] [] = refl
+pointwise_same [] (y ∷ b) = refl
+pointwise_same (x ∷ a) [] = refl
+pointwise_same (x ∷ a) (y ∷ b) = ap (λ (t : Bool). eqb x y && t) (pointwise_same a b)
+
+-- the first byte differs, or is the same and the rest of the part was compared
+pub first_differs : (text e : Bytes) (i : ℕ) → 0 < length text → i < length e → (get_or e i 0 ≡ get_or text 0 0 → ⊥) → starts text (drop i e) ≡ false
 unfolding same_bytes
 first_differs [] e i h l d = absurd (omega arith)
 first_differs (b ∷ text) e i h l d = rw (drop-cons e i 0 l, ne_eqb (get_or e i 0) b d)
 
--- the first byte is all of it
-pub first_same : (text e : Bytes) (i : ℕ) → length text ≡ 1 → i < length e → get_or e i 0 ≡ get_or text 0 0
-    → same_bytes (take (length text) (drop i e)) text ≡ true
+pub rest_told : (text e : Bytes) (i : ℕ) {t : Bool} → 0 < length text → i < length e → get_or e i 0 ≡ get_or text 0 0
+    → t ≡ pointwise eqb (take (i + length text - (i + 1)) (drop (i + 1) e)) (take (length text - 1) (drop 1 text)) → starts text (drop i e) ≡ t
 unfolding same_bytes
-first_same [] e i h l d = absurd (omega arith)
-first_same (b ∷ []) e i h l d = rw (drop-cons e i 0 l, eq-eqb (get_or e i 0) b d)
-first_same (b ∷ c ∷ text) e i h l d = absurd (omega arith)
-
--- a part of the element was compared
-pub part_told : (text e : Bytes) (i : ℕ) {n : ℕ} {r t : Bool} → n ≡ length text → r ≡ same_bytes (take n (drop i e)) text → r ≡ t
-    → same_bytes (take (length text) (drop i e)) text ≡ t
-part_told text e i l told h = rw (← l) (sym told ∙ h)
+rest_told [] e i h l f told = absurd (omega arith)
+rest_told (b ∷ text) e i h l f told =
+    let n : i + length (b ∷ text) - (i + 1) ≡ length text = omega arith in
+    let m : length (b ∷ text) - 1 ≡ length text = omega arith in
+    rw (drop-cons e i 0 l, eq-eqb (get_or e i 0) b f)
+    (sym (told ∙ rw (n, m, take-length text, add-one i) (pointwise_same (take (length text) (drop (suc i) e)) text)))
 
 module _ (text e : Bytes) {flags out : Bytes} (room : length e < length flags) where
   pub text_short : length e < length text → out ≡ over flags 0 (replicate (length e + 1) 0) → Moved (Test.literal text) e flags out
@@ -313,9 +319,10 @@ module _ (text e : Bytes) {flags : Bytes} (before : Bytes → Bool) (x : Marks b
         (sym (ap (λ (n : ℕ). eqb n 1) (x.marks k (omega arith)) ∙ is_flag (before (take k e))))
 
     -- the place in front of it is not reached
-    pub end_unreached : (get_or flags k 0 ≡ 1 → ⊥) → false ≡ cut_by before (Test.literal text) e
-    end_unreached h = sym (literal_at ∙ rw (ne_eqb (get_or flags k 0) 1 h))
+    pub end_unreached : (get_or flags k 0 ≡ 1 → ⊥) → eqb (get_or flags k 0) 1 ≡ cut_by before (Test.literal text) e
+    end_unreached h = ne_eqb (get_or flags k 0) 1 h ∙ sym (literal_at ∙ rw (ne_eqb (get_or flags k 0) 1 h))
 
-    pub end_compared : {n : ℕ} {r : Bool} → n ≡ length text → get_or flags k 0 ≡ 1 → r ≡ same_bytes (take n (drop k e)) text
-        → r ≡ cut_by before (Test.literal text) e
-    end_compared l h told = told ∙ rw l (sym (literal_at ∙ rw (eq-eqb (get_or flags k 0) 1 h)))
+    pub end_compared : {r : Bool} → get_or flags k 0 ≡ 1 → r ≡ pointwise eqb text (drop k e) → r ≡ cut_by before (Test.literal text) e
+    end_compared h told =
+        let whole : take (length text) (drop k e) ≡ drop k e = take_all (length text) (drop k e) (omega (arith, length-drop k e)) in
+        told ∙ same_pointwise (drop k e) text ∙ sym (literal_at ∙ rw (eq-eqb (get_or flags k 0) 1 h, whole))

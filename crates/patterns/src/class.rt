@@ -7,6 +7,8 @@ ghost use Rattle.patterns.specs.Reach.{flag};
 use codes::Class;
 use texts::letter;
 
+// A match: the enum is the paper's, in crates/codes, and the bytes' tests are those of crates/texts.
+#[tactic(auto, unfolding(paper::specs::Patterns::of_class, codes::specs::Meaning::class_of))]
 fn of_class(class: Class, b: u8) -> bool
     ensures { result ≡ of_class (class_of class) b }
 {
@@ -21,7 +23,7 @@ fn of_class(class: Class, b: u8) -> bool
 pub(crate) fn mark(class: Class, b: u8) -> u8
     ensures { result ≡ flag (of_class (class_of class) b) }
 {
-    if of_class(class, b) { 1 } else { 0 }
+    u8::from(of_class(class, b))
 }
 
 // A run of bytes of the class, with one byte more in front.

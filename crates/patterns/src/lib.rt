@@ -5,13 +5,13 @@
 ghost use Rattle.std.specs.Prelude.{◌≡◌, ◌≤◌, length};
 ghost use Rattle.paper.specs.Sizes.{entry_most};
 ghost use Rattle.paper.specs.Refusals.{given};
-ghost use Rattle.paper.specs.Answers.{given_of, written};
+ghost use Rattle.paper.specs.Answers.{told, sized, written};
 ghost use Rattle.paper.specs.Patterns.{patterns_give};
 ghost use Rattle.paper.specs.Steps.{limited};
 ghost use Rattle.codes.specs.Meaning.{patterns_at};
 ghost use Rattle.patterns.specs.Readable.{Readable};
 
-use paper::{Given, Limit};
+use paper::{Limit, Refusal};
 
 mod class;
 mod moving;
@@ -21,16 +21,16 @@ mod trying;
 const FLAGS: usize = 2 * Limit::ENTRY.most + 1;
 
 // P on one element, with the patterns that stand at `start` of the code string.
-pub fn give(code: &[u8], start: usize, e: &[u8], out: &mut [u8]) -> Given
+pub fn give(code: &[u8], start: usize, e: &[u8], out: &mut [u8]) -> Result<usize, Refusal>
     requires { (length e.now ≤ entry_most) × (entry_most ≤ length out.old) × Readable code.now start }
-    ensures value { result ≡ given_of (limited entry_most (given (patterns_give (patterns_at code.now start) e.now))) }
+    ensures value { told result ≡ sized (limited entry_most (given (patterns_give (patterns_at code.now start) e.now))) }
     ensures out_after { out.new ≡ written out.old
         (limited entry_most (given (patterns_give (patterns_at code.now start) e.now))) }
 {
-    let mut reach = [0u8; FLAGS];
+    let mut reach = [0; FLAGS];
     if trying::some_passes(code, start, e, &mut reach) {
-        lent::copy_in(e, out, 0);
-        return Given::Length(e.len());
+        out[..e.len()].copy_from_slice(e);
+        return Ok(e.len());
     }
-    Given::Length(0)
+    Ok(0)
 }

@@ -1,7 +1,8 @@
 // One test for all cuts at once: the flags of the places that the tests so far can end at are moved on in place, in one pass over the element.
 // "if it can be cut into consecutive parts that meet the tests in turn": no place is given up for another, and none is tried twice.
+// An element and its flags are two slices: a struct of both, lent to be written, would have each contract say that the element stays.
 ghost use Rattle.std.specs.Prelude.{◌≡◌, Bool, ◌+◌, ◌≤◌, ◌<◌, length, drop, leb, if◌then◌else◌};
-ghost use Rattle.paper.specs.Bytes.{Bytes, same_bytes};
+ghost use Rattle.paper.specs.Bytes.{Bytes};
 ghost use Rattle.paper.specs.Codes as paper;
 ghost use Rattle.paper.proofs.Patterns.{cut_by};
 ghost use Rattle.codes.specs.Meaning.{class_of, test_of};
@@ -16,15 +17,14 @@ fn extend(class: Class, e: &[u8], reach: &mut [u8])
     ensures { Moved (paper.so_many 0 (class_of class)) e.now reach.old reach.new }
 {
     let mut carried = 0u8;
-    let mut j = 0;
-    while j < e.len() {
+    // by index: through a `zip` of `iter_mut` a proof knows the length alone
+    for (j, &b) in e.iter().enumerate() {
         let here = reach[j] | carried;
-        let passed = here & class::mark(class, e[j]);
+        let passed = here & class::mark(class, b);
         reach[j] = here;
         carried = passed;
-        j += 1;
     }
-    reach[j] = reach[j] | carried;
+    reach[e.len()] |= carried;
 }
 
 fn if_long(run: usize, count: usize, flag: u8) -> u8
@@ -39,9 +39,7 @@ fn carry_run(class: Class, count: usize, e: &[u8], reach: &mut [u8])
     ensures { Carried (goes_on (class_of class) count) count e.now 0 reach.old reach.new }
 {
     let mut run = 0;
-    let mut i = e.len();
-    while 0 < i {
-        i -= 1;
+    for i in (0..e.len()).rev() {
         run = class::longer(class, e[i], run);
         reach[i + count] = if_long(run, count, reach[i]);
     }
@@ -54,47 +52,23 @@ fn run_on(class: Class, count: usize, e: &[u8], reach: &mut [u8])
 {
     let n = e.len();
     if n < count {
-        lent::fill(reach, 0, n + 1, 0);
+        reach[..=n].fill(0);
         return;
     }
     carry_run(class, count, e, reach);
-    lent::fill(reach, 0, count, 0);
+    reach[..count].fill(0);
 }
 
-// No early exit and a flag as wide as a byte, so that it is compiled to SIMD.
-fn same(a: &[u8], b: &[u8]) -> bool
-    requires { length a.now ≡ length b.now }
-    ensures { result ≡ same_bytes a.now b.now }
-{
-    let mut other = 0u8;
-    let mut k = 0;
-    while k < a.len() {
-        let x = a[k];
-        let y = b[k];
-        k += 1;
-        if x != y {
-            other = 1;
-        }
-    }
-    other == 0
-}
-
-// A flag behind a literal. Most places fail by their flag or by the first byte, so that few are compared whole.
+// A flag behind a literal. Most places fail by their flag or by the first byte, which is tried by itself: `starts_with` was slower (measured).
 fn behind(text: &[u8], e: &[u8], i: usize, flag: u8) -> u8
     requires { (0 < length text.now) × (i + length text.now ≤ length e.now) }
     ensures { result ≡ (if starts text.now (drop i e.now) then flag else 0) }
 {
-    if flag == 0 {
-        return 0;
+    if flag != 0 && e[i] == text[0] && &e[i + 1..i + text.len()] == &text[1..] {
+        flag
+    } else {
+        0
     }
-    if e[i] != text[0] {
-        return 0;
-    }
-    if text.len() == 1 {
-        return flag;
-    }
-    let end = i + text.len();
-    if same(&e[i..end], text) { flag } else { 0 }
 }
 
 // Right to left as well, from the last place that the literal can stand at.
@@ -103,9 +77,7 @@ fn carry_text(text: &[u8], e: &[u8], reach: &mut [u8])
     ensures { Carried (starts text.now) (length text.now) e.now 0 reach.old reach.new }
 {
     let count = text.len();
-    let mut i = e.len() - count + 1;
-    while 0 < i {
-        i -= 1;
+    for i in (0..e.len() - count + 1).rev() {
         reach[i + count] = behind(text, e, i, reach[i]);
     }
 }
@@ -121,11 +93,11 @@ fn literal(text: &[u8], e: &[u8], reach: &mut [u8])
         return;
     }
     if n < count {
-        lent::fill(reach, 0, n + 1, 0);
+        reach[..=n].fill(0);
         return;
     }
     carry_text(text, e, reach);
-    lent::fill(reach, 0, count, 0);
+    reach[..count].fill(0);
 }
 
 pub(crate) fn advance(test: Test, code: &[u8], e: &[u8], reach: &mut [u8])
@@ -140,10 +112,7 @@ pub(crate) fn advance(test: Test, code: &[u8], e: &[u8], reach: &mut [u8])
                 run_on(class, count as usize, e, reach);
             }
         }
-        Test::Literal { start, len } => {
-            let end = start + len;
-            literal(&code[start..end], e, reach);
-        }
+        Test::Literal { start, len } => literal(&code[start..start + len], e, reach),
     }
 }
 
@@ -153,15 +122,11 @@ fn ends_with(text: &[u8], e: &[u8], reach: &[u8]) -> bool
     ensures { (before : Bytes → Bool) → Marks before e.now reach.now
         → result ≡ cut_by before (paper.literal text.now) e.now }
 {
-    let end = e.len();
-    if end < text.len() {
+    let count = text.len();
+    if e.len() < count {
         return false;
     }
-    let at = end - text.len();
-    if reach[at] != 1 {
-        return false;
-    }
-    same(&e[at..end], text)
+    reach[e.len() - count] == 1 && e.ends_with(text)
 }
 
 // Whether the element's end is reached behind this test.
@@ -171,14 +136,10 @@ pub(crate) fn ends(test: Test, code: &[u8], e: &[u8], reach: &mut [u8]) -> bool
         → result ≡ cut_by before (test_of code.now test) e.now }
 {
     match test {
-        Test::Literal { start, len } => {
-            let stop = start + len;
-            ends_with(&code[start..stop], e, &*reach)
-        }
+        Test::Literal { start, len } => ends_with(&code[start..start + len], e, reach),
         _ => {
             advance(test, code, e, reach);
-            let end = e.len();
-            reach[end] == 1
+            reach[e.len()] == 1
         }
     }
 }

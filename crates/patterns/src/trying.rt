@@ -1,4 +1,5 @@
 // Patterns tried on an element, re-read from the code string.
+// Its loops are written out: only a reader says where the next test or pattern begins.
 ghost use Rattle.std.specs.Prelude.{◌+◌, ◌≤◌, ◌<◌, length, drop};
 ghost use Rattle.paper.specs.Grammar.{tests, pattern_list};
 ghost use Rattle.paper.specs.Patterns.{passes, some_passes};
@@ -7,50 +8,41 @@ ghost use Rattle.patterns.specs.Reach.{Marks};
 ghost use Rattle.patterns.specs.Readable.{Judged, Decided};
 
 use crate::moving;
-use readers::ReadTest;
+use paper::Read;
 use readers::patterns::test;
-use readers::places::peek;
-
-// Whether a pattern passed, and the place behind it.
-#[derive(Clone, Copy)]
-struct Tried {
-    passed: bool,
-    next: usize,
-}
+use readers::places::{peek, this};
 
 // Before the first test only the element's front is reached.
 fn at_front(e: &[u8], reach: &mut [u8])
     requires { length e.now < length reach.old }
     ensures { Marks nothing e.now reach.new }
 {
-    lent::fill(reach, 0, e.len() + 1, 0);
+    reach[..=e.len()].fill(0);
     reach[0] = 1;
 }
 
-// One pattern, from behind its `(` to behind its `)`. Nothing may be left over: it passes where the element's end is reached.
-fn try_pattern(code: &[u8], from: usize, e: &[u8], reach: &mut [u8]) -> Tried
+// One pattern, from behind its `(` to behind its `)`: whether it passed. Nothing may be left over: it passes where the element's end is reached.
+fn try_pattern(code: &[u8], from: usize, e: &[u8], reach: &mut [u8]) -> Read<bool>
     requires { length e.now + length e.now < length reach.old }
     ensures from_le_next { from ≤ result.next }
-    ensures judged { Judged (λ ts. passes ts e.now) code.now result.passed result.next (tests (drop from code.now)) }
+    ensures judged { Judged (λ ts. passes ts e.now) code.now result.value result.next (tests (drop from code.now)) }
 {
     at_front(e, reach);
     let mut at = from;
-    loop {
-        let ReadTest::Test { test, next } = test(code, at) else {
-            return Tried {
-                passed: false,
-                next: at,
-            };
-        };
-        let ahead = peek(code, next);
-        if ahead.byte == b')' {
-            return Tried {
-                passed: moving::ends(test, code, e, reach),
+    while let Ok(read) = test(code, at) {
+        let ahead = peek(code, read.next);
+        if ahead.value == b')' {
+            return Read {
+                value: moving::ends(read.value, code, e, reach),
                 next: ahead.next,
             };
         }
-        moving::advance(test, code, e, reach);
-        at = next;
+        moving::advance(read.value, code, e, reach);
+        at = read.next;
+    }
+    Read {
+        value: false,
+        next: at,
     }
 }
 
@@ -60,19 +52,15 @@ pub(crate) fn some_passes(code: &[u8], start: usize, e: &[u8], reach: &mut [u8])
     ensures { Decided (λ ps. some_passes ps e.now) result (pattern_list (drop start code.now)) }
 {
     let mut at = start;
-    loop {
-        let opening = peek(code, at);
-        if opening.byte != b'(' {
-            return false;
-        }
-        let pattern = try_pattern(code, opening.next, e, reach);
-        if pattern.passed {
+    while let Ok(open) = this(code, at, b'(') {
+        let pattern = try_pattern(code, open.next, e, reach);
+        if pattern.value {
             return true;
         }
-        let ahead = peek(code, pattern.next);
-        if ahead.byte != b';' {
+        let Ok(more) = this(code, pattern.next, b';') else {
             return false;
-        }
-        at = ahead.next;
+        };
+        at = more.next;
     }
+    false
 }

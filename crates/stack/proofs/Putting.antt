@@ -143,17 +143,12 @@ module _ {scratch : Bytes} {lens : List ℕ} {scratch' : Bytes} {lens' : List �
   unfolding stack_of
   after_on_top = rw (after_same, after_above k (omega arith))
 
--- what one slot holds, put into another
-pub copy_slotted : {s s' : Bytes} {l l' : List ℕ} (slotted : Slotted s l) (from to : ℕ) → from < slots → to < slots
-    → Put s l to (entry_at s l from) s' l' → Slotted s' l'
-copy_slotted slotted from to there here put = after_slotted slotted to _ here (entry_fits slotted from there) put
-
 -- two slots exchanged by three copies
 module _ {s₀ s₁ s₂ s₃ : Bytes} {l₀ l₁ l₂ l₃ : List ℕ} (slotted : Slotted s₀ l₀) (k : ℕ) (room : k + 1 < stack_most)
     (aside : Put s₀ l₀ spare_slot (entry_at s₀ l₀ k) s₁ l₁) (down : Put s₁ l₁ k (entry_at s₁ l₁ (k + 1)) s₂ l₂)
     (up : Put s₂ l₂ (k + 1) (entry_at s₂ l₂ spare_slot) s₃ l₃) where
   aside_slotted : Slotted s₁ l₁
-  aside_slotted = copy_slotted slotted k spare_slot (omega arith) (omega arith) aside
+  aside_slotted = after_slotted slotted spare_slot _ (omega arith) (entry_fits slotted k (omega arith)) aside
 
   lower : entry_at s₁ l₁ (k + 1) ≡ entry_at s₀ l₀ (k + 1)
   lower = after_other slotted spare_slot _ (omega arith) (entry_fits slotted k (omega arith)) aside (k + 1) (omega arith)
@@ -185,9 +180,6 @@ module _ {s₀ s₁ s₂ s₃ : Bytes} {l₀ l₁ l₂ l₃ : List ℕ} (slotted
 
   slotted₂ : Slotted s₂ l₂
   slotted₂ = after_slotted slotted₁ k _ (omega arith) fits' down
-
-  pub exchanged_slotted : Slotted s₃ l₃
-  exchanged_slotted = after_slotted slotted₂ (k + 1) _ (omega arith) fits up
 
   pub exchanged_element : entry_at s₃ l₃ element_slot ≡ entry_at s₀ l₀ element_slot
   exchanged_element =

@@ -47,8 +47,7 @@ pub record Slotted (scratch : Bytes) (lens : List ℕ) : Type 0 where
   pub each : length lens ≡ slots
   pub fits : (k : ℕ) → get_or lens k 0 ≤ entry_most
 
--- what is lent to the machine: a record within its limit, the slots, and a work buffer for one entry
-pub record Lent (item scratch : Bytes) (lens : List ℕ) (work : Bytes) : Type 0 where
+-- what is lent to the machine beside the slots: a record within its limit, and a work buffer for one entry
+pub record Lent (item work : Bytes) : Type 0 where
   pub record_fits : length item ≤ record_most
-  pub slotted : Slotted scratch lens
   pub work_fits : entry_most ≤ length work

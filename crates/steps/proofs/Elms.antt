@@ -10,7 +10,8 @@ use borrow.Author.Tests.{le-leb}
 use Rattle.paper.specs.Bytes.{Bytes}
 use Rattle.paper.specs.Sizes.{entry_most, stack_most}
 use Rattle.paper.specs.Refusals.{Res, given, refused, ◌>>=◌}
-use Rattle.paper.specs.declared.Given.{Given}
+use Rattle.std.specs.Prelude.{Result}
+use Rattle.paper.specs.declared.Refusal.{Refusal}
 use Rattle.paper.specs.Numbers.{Binary, binary_gives, substring_gives}
 use Rattle.paper.specs.Codes.{Conversion, Elm, Kind}
 use Rattle.paper.specs.Checking.{conversion_kind, shape, stacked, Room}
@@ -27,8 +28,8 @@ use Rattle.giving.proofs.Numbers.{charged_within}
 use Rattle.stack.specs.Slots.{element_slot, entry_at, stack_of, Slotted}
 use Rattle.stack.specs.Charging.{taken_one, taken_two, taken_three, putting, exchanging, handed}
 use Rattle.stack.proofs.Putting.{entry_fits}
-use Rattle.paper.proofs.Limits.{limited_within}
-use Rattle.stack.proofs.Charges.{stack_length, Gave, gave_handed}
+use Rattle.paper.proofs.Limits.{limited_within, Answered}
+use Rattle.stack.proofs.Charges.{stack_length, gave_handed}
 use Rattle.steps.specs.declared.Position.{Position}
 use Rattle.steps.specs.Stepping.{binary_on, substring_on, converted_on, setting, setting_of}
 
@@ -122,24 +123,24 @@ module _ (item code : Bytes) (at : Position) (scratch : Bytes) (lens : List ℕ)
 
 -- what was given on the entries in the slots from k on, put in their place
 module _ (scratch : Bytes) (lens : List ℕ) (k : ℕ) where
-  pub binary_gave : {answer : Given} {work' second top : Bytes} (o : Binary) (work : Bytes) (stack : List Bytes)
+  pub binary_gave : (answer : Result ℕ Refusal) {work' second top : Bytes} (o : Binary) (work : Bytes) (stack : List Bytes)
       → second ≡ entry_at scratch lens k → top ≡ entry_at scratch lens (k + 1)
-      → Gave (limited entry_most (binary_gives o second top)) answer work work'
+      → Answered (limited entry_most (binary_gives o second top)) work work' answer
       → putting (taken_two scratch lens k) (binary_on o scratch lens k) stack ≡ putting (length second + length top) (handed answer work') stack
-  binary_gave o work stack e e' g = rw (gave_handed _ work g, e, e')
+  binary_gave answer o work stack e e' g = rw (gave_handed answer _ work g, e, e')
 
-  pub substring_gave : {answer : Given} {work' third second top : Bytes} (work : Bytes) (stack : List Bytes)
+  pub substring_gave : (answer : Result ℕ Refusal) {work' third second top : Bytes} (work : Bytes) (stack : List Bytes)
       → third ≡ entry_at scratch lens k → second ≡ entry_at scratch lens (k + 1) → top ≡ entry_at scratch lens (k + 2)
-      → Gave (limited entry_most (substring_gives third second top)) answer work work'
+      → Answered (limited entry_most (substring_gives third second top)) work work' answer
       → putting (taken_three scratch lens k) (substring_on scratch lens k) stack
       ≡ putting (length third + length second + length top) (handed answer work') stack
-  substring_gave work stack e e' e'' g = rw (gave_handed _ work g, e, e', e'')
+  substring_gave answer work stack e e' e'' g = rw (gave_handed answer _ work g, e, e', e'')
 
-  pub converted_gave : {answer : Given} {work' top : Bytes} {taken : ℕ} (q : Converted) (c : Conversion) (work : Bytes) (stack : List Bytes)
-      → top ≡ entry_at scratch lens k → Gave (limited entry_most (conversion_gives c top)) answer work work'
+  pub converted_gave : (answer : Result ℕ Refusal) {work' top : Bytes} {taken : ℕ} (q : Converted) (c : Conversion) (work : Bytes) (stack : List Bytes)
+      → top ≡ entry_at scratch lens k → Answered (limited entry_most (conversion_gives c top)) work work' answer
       → taken ≡ charged (kind_of q) 0 (length top)
       → putting (charged (kind_of q) 0 (taken_one scratch lens k)) (converted_on c scratch lens k) stack ≡ putting taken (handed answer work') stack
-  converted_gave q c work stack e g t = rw (gave_handed _ work g, t, e)
+  converted_gave answer q c work stack e g t = rw (gave_handed answer _ work g, t, e)
 
   -- `P`: the bytes taken by the length that the slot says
   pub duplicate_taken : {n : ℕ} (x : Res Bytes) (stack : List Bytes) → length (entry_at scratch lens k) ≡ n

@@ -10,5 +10,5 @@ operand_settled : (κs : Lfts 1) → (a : _) (r r' : _) (e e' : _) → operand.P
 operand_settled κs a r r' e e' p q = p ∙ sym q
 
 step_settled : (κs : Lfts 4) → (a : _) (r r' : _) (e e' : _) → step.Post κs a r e → step.Post κs a r' e'
-    → SameStep r r' e.1.1.1.1.1.1.0.now e'.1.1.1.1.1.1.0.now e.1.1.1.1.1.1.1.0.now e'.1.1.1.1.1.1.1.0.now
+    → SameStep r r' e.1.1.1.1.1.1.0.now.scratch.now e'.1.1.1.1.1.1.0.now.scratch.now e.1.1.1.1.1.1.0.now.lens e'.1.1.1.1.1.1.0.now.lens
 step_settled κs a r r' e e' p q = same_step p q

@@ -1,7 +1,8 @@
 -- One step of an F code, as the code answers it: what it sees besides the stack, what it gives, and what the slots hold then.
-use Rattle.std.specs.Prelude.{ℕ, ◌+◌, List}
+use Rattle.std.specs.Prelude.{ℕ, ◌+◌, List, Result}
 use Rattle.paper.specs.Bytes.{Bytes}
 use Rattle.paper.specs.Refusals.{Res}
+use Rattle.paper.specs.declared.Refusal.{Refusal}
 use Rattle.paper.specs.Sizes.{entry_most}
 use Rattle.paper.specs.Codes as paper
 use Rattle.paper.specs.Numbers.{Binary, binary_gives, substring_gives}
@@ -34,7 +35,7 @@ abbrev pub setting_of : Bytes → Position → Bytes → List ℕ → Setting
 setting_of item at scratch lens = setting item at (entry_at scratch lens element_slot)
 
 -- what the step of an elm leaves, on the first `held` slots as the stack
-abbrev pub ElmCharges : ℕ → Bytes → Bytes → Elm → Position → ℕ → Step → Bytes → List ℕ → Bytes → List ℕ → Type 0
+abbrev pub ElmCharges : ℕ → Bytes → Bytes → Elm → Position → ℕ → Result Step Refusal → Bytes → List ℕ → Bytes → List ℕ → Type 0
 ElmCharges left item code elm at held r scratch lens scratch' lens' =
     Charges left (elm_step entry_most (setting_of item at scratch lens) (elm_of code elm) (stack_of scratch lens held)) r scratch lens
     scratch' lens'

@@ -8,19 +8,19 @@ ghost use Rattle.steps.specs.Stepping.{setting};
 
 use crate::Position;
 use codes::{Operand, Repeat};
+use paper::Address;
 
 // "`n` loads (n,v,s), `nR` loads (n,1,s), `nRR` loads (n,1,1); attribute 0 is always the id"
 fn load<'a>(item: &'a [u8], number: u64, repeat: Repeat, at: Position) -> &'a [u8]
     ensures { result.now ≡ reads item.now (load_path number (repeat_of repeat) at.v at.s) }
 {
-    if number == 0 {
-        return records::part(item, 0, 0, 0);
-    }
-    match repeat {
-        Repeat::Each => records::part(item, number, at.v, at.s),
-        Repeat::FirstValue => records::part(item, number, 1, at.s),
-        Repeat::FirstSubvalue => records::part(item, number, 1, 1),
-    }
+    let (a, v, s) = match (number, repeat) {
+        (0, _) => (0, 0, 0),
+        (_, Repeat::Each) => (number, at.v, at.s),
+        (_, Repeat::FirstValue) => (number, 1, at.s),
+        (_, Repeat::FirstSubvalue) => (number, 1, 1),
+    };
+    records::part(item, Address { a, v, s })
 }
 
 // A part of the record or of the code; LPV, which stands in a slot, is empty here.

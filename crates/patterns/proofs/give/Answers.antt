@@ -1,4 +1,5 @@
 -- `give` writes the element where a pattern passes, else nothing.
+use mathlib.Core.Path.{refl}
 use native.Mathlib.Omega.{arith}
 use Rattle.paper.proofs.Limits.{entry_limit}
 use Rattle.patterns.proofs.Choosing.{gives_element, gives_nothing}
@@ -9,12 +10,8 @@ some_passes-requires c = omega (arith, entry_limit)
 
 pub returns-then-some_passes : goal.returns-then-some_passes
 returns-then-some_passes c =
-    let passed = c.before.before.before.before in
-    let told = passed.before.before in
     gives_element c.args.e.now c.requires.2 c.args.out.now c.requires.0 c.some_passes.ensures c.if-some_passes.true
-    c.copy_in.ensures
+    (rw c.copy_from_slice.ensures.after refl)
 
 pub returns : goal.returns
-returns c =
-    let told = c.before.before in
-    gives_nothing c.args.e.now c.requires.2 c.args.out.now c.requires.0 c.some_passes.ensures c.if-some_passes.false
+returns c = gives_nothing c.args.e.now c.requires.2 c.args.out.now c.requires.0 c.some_passes.ensures c.if-some_passes.false

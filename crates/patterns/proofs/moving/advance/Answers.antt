@@ -5,12 +5,6 @@ use native.Mathlib.Omega.{arith}
 use Rattle.patterns.proofs.Testing.{any_test, run_test, literal_test, literal_ends}
 use Rattle.patterns.proofs.moving.advance.Goals as goal
 
-pub overflow_add-end : goal.overflow_add-end
-overflow_add-end c = omega (arith, literal_ends c.args.code.now c.in-Literal.is c.requires.0)
-
-pub slice_bounds-literal-end : goal.slice_bounds-literal-end
-slice_bounds-literal-end c = literal_ends c.args.code.now c.in-Literal.is c.requires.0
-
 pub returns-then-count-eq0 : goal.returns-then-count-eq0
 returns-then-count-eq0 c = any_test _ c.in-SoMany.is c.if-count-eq0.true c.extend.ensures
 

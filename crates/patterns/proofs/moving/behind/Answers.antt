@@ -1,35 +1,20 @@
--- `behind` keeps the flag where the bytes from place i on are the literal's.
-use Prim.Native.Nat.{◌+◌, ◌-◌}
-use mathlib.Core.Path.{◌≡◌}
+-- `behind` tells a literal by the flag of the place in front, by its first byte and by the rest.
+use mathlib.Core.Path.{refl, ◌∙◌}
 use native.Mathlib.Omega.{arith}
-use lib.ListN.{length, take, drop}
-use Rattle.paper.specs.Bytes.{same_bytes}
-use Rattle.patterns.proofs.Marking.{zero_flag, first_differs, first_same, part_told}
+use Rattle.patterns.proofs.Marking.{first_differs, rest_told, zero_flag}
 use Rattle.patterns.proofs.moving.behind.Goals as goal
+use Rattle.patterns.proofs.moving.behind.Goals.{else-flag-ne0-via-then-flag-ne0+then-e-i+else-eq}
+use Rattle.patterns.proofs.moving.behind.Goals.{else-flag-ne0-via-then-flag-ne0+else-e-i, else-flag-ne0-via-else-flag-ne0}
 
-pub returns-then-flag-eq0 : goal.returns-then-flag-eq0
-returns-then-flag-eq0 c =
-    let a = c.args in
-    zero_flag (same_bytes (take (length a.text.now) (drop a.i a.e.now)) a.text.now) a.flag c.if-flag-eq0.true
+pub returns-then-eq : goal.returns-then-eq
+returns-then-eq c =
+    let a = c.args in rw (rest_told a.text.now a.e.now a.i (omega arith) (omega arith) c.if-e-i.true c.eq.ensures ∙ c.if-eq.true) refl
 
-pub returns-then-e-i : goal.returns-then-e-i
-returns-then-e-i c =
-    let a = c.args in
-    rw (first_differs a.text.now a.e.now a.i c.requires.0 (omega arith) c.if-e-i.true)
-
-pub returns-then-text-eq1 : goal.returns-then-text-eq1
-returns-then-text-eq1 c =
-    let a = c.args in
-    rw (first_same a.text.now a.e.now a.i c.if-text-eq1.true (omega arith) c.if-e-i.false)
-
-pub returns-then-same : goal.returns-then-same
-returns-then-same c =
-    let a = c.args in
-    let n : a.i + length a.text.now - a.i ≡ length a.text.now = omega arith in
-    rw (part_told a.text.now a.e.now a.i n c.same.ensures c.if-same.true)
-
-pub returns-else-same : goal.returns-else-same
-returns-else-same c =
-    let a = c.args in
-    let n : a.i + length a.text.now - a.i ≡ length a.text.now = omega arith in
-    rw (part_told a.text.now a.e.now a.i n c.same.ensures c.if-same.false)
+pub returns-else-flag-ne0 : goal.returns-else-flag-ne0
+returns-else-flag-ne0 c =
+    let a = c.args in elim c.else-flag-ne0.branch [
+      | else-flag-ne0-via-then-flag-ne0+then-e-i+else-eq w ↦
+          rw (rest_told a.text.now a.e.now a.i (omega arith) (omega arith) w.if-e-i.true w.eq.ensures ∙ w.if-eq.false) refl
+      | else-flag-ne0-via-then-flag-ne0+else-e-i w ↦ rw (first_differs a.text.now a.e.now a.i (omega arith) (omega arith) w.if-e-i.false) refl
+      | else-flag-ne0-via-else-flag-ne0 w ↦ zero_flag _ _ w.if-flag-ne0.false
+    ]

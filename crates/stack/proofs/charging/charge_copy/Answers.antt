@@ -1,26 +1,25 @@
 -- `stack::charging::charge_copy` meets its contract: 15 with nothing put, or what the slot holds in slot k.
 use mathlib.Core.Path.{sym}
 use native.Mathlib.Omega.{arith}
+use Rattle.std.proofs.lemmas.Result.{err_from_is_err_and}
 use Rattle.paper.specs.Sizes.{entry_most}
 use Rattle.stack.proofs.Putting.{entry_length, entry_fits}
 use Rattle.stack.proofs.Charges.{put_over, put_within}
 use Rattle.stack.proofs.charging.charge_copy.Goals as goal
 
-pub charge-charged-requires : goal.charge-charged-requires
+pub charge-requires : goal.charge-requires
 unfolding entry_most
-charge-charged-requires c = (c.requires.3, omega (arith, c.requires.0.fits c.args.from))
+charge-requires c = (c.requires.2, omega (arith, c.args.slots.now.slotted.fits c.args.from))
 
-pub returns-in_default : goal.returns-in_default
-returns-in_default c =
-    put_over c.requires.0 c.args.left _ _ c.charge-charged.ensures _ _
-    (sym (entry_length c.requires.0 c.args.from c.requires.2))
-    c.in_default.is
-    c.refusal.ensures
+pub returns-in_err-cost : goal.returns-in_err-cost
+returns-in_err-cost c =
+    let p = err_from_is_err_and c.from_residual.result c.from_residual.ensures.1 in rw (p.1, p.2)
+    (put_over c.args.slots.now.slotted c.args.left _ _ _ _ (sym (entry_length c.args.slots.now.slotted c.args.from c.requires.1)) c.in_err-cost.ensures)
 
 pub returns : goal.returns
 returns c =
-    put_within c.requires.0 c.args.left _ _ c.charge-charged.ensures _ _ c.requires.1
-    (entry_fits c.requires.0 c.args.from c.requires.2)
-    (sym (entry_length c.requires.0 c.args.from c.requires.2))
-    c.in-Cost.is
+    put_within c.args.slots.now.slotted c.args.left _ _ _ _ c.requires.0
+    (entry_fits c.args.slots.now.slotted c.args.from c.requires.1)
+    (sym (entry_length c.args.slots.now.slotted c.args.from c.requires.1))
+    c.in_ok-cost.ensures
     c.copy.ensures

@@ -1,17 +1,19 @@
 -- `stack::charging::charge_entry` meets its contract: 15 with nothing put, or the bytes in slot k.
 use mathlib.Core.Path.{refl}
 use native.Mathlib.Omega.{arith}
+use Rattle.std.proofs.lemmas.Result.{err_from_is_err_and}
 use Rattle.paper.specs.Sizes.{entry_most}
 use Rattle.stack.proofs.Charges.{put_over, put_within}
 use Rattle.stack.proofs.charging.charge_entry.Goals as goal
 
-pub charge-charged-requires : goal.charge-charged-requires
+pub charge-requires : goal.charge-requires
 unfolding entry_most
-charge-charged-requires c = (c.requires.3, omega arith)
+charge-requires c = (c.requires.2, omega arith)
 
-pub returns-in_default : goal.returns-in_default
-returns-in_default c = put_over c.requires.0 c.args.left _ _ c.charge-charged.ensures _ _ refl c.in_default.is c.refusal.ensures
+pub returns-in_err-cost : goal.returns-in_err-cost
+returns-in_err-cost c =
+    let p = err_from_is_err_and c.from_residual.result c.from_residual.ensures.1 in rw (p.1, p.2)
+    (put_over c.args.slots.now.slotted c.args.left _ _ _ _ refl c.in_err-cost.ensures)
 
 pub returns : goal.returns
-returns c =
-    put_within c.requires.0 c.args.left _ _ c.charge-charged.ensures _ _ c.requires.1 c.requires.2 refl c.in-Cost.is c.put.ensures
+returns c = put_within c.args.slots.now.slotted c.args.left _ _ _ _ c.requires.0 c.requires.1 refl c.in_ok-cost.ensures c.put.ensures

@@ -8,11 +8,11 @@ use Rattle.stack.proofs.charging.charge_operand.Goals as goal
 
 pub returns-then-bytes : goal.returns-then-bytes
 unfolding entry_most
-returns-then-bytes c = operand_over c.requires.0 c.args.left _ _ _ c.if-bytes.true
+returns-then-bytes c = operand_over c.args.slots.now.slotted c.args.left _ _ _ c.if-bytes.true
 
 pub charge_entry-requires : goal.charge_entry-requires
 unfolding entry_most
-charge_entry-requires c = (c.requires.0, c.requires.1, omega arith, c.requires.2)
+charge_entry-requires c = (c.requires.0, omega arith, c.requires.1)
 
 pub returns : goal.returns
 unfolding entry_most

@@ -5,18 +5,15 @@ use Rattle.paper.specs.Records.{Turn, reads}
 use Rattle.codes.specs.Meaning.{repeat_of}
 use Rattle.steps.proofs.Operands.{load_id, loads}
 use Rattle.steps.proofs.loading.load.Goals as goal
+use Rattle.steps.proofs.loading.load.Goals.{in-0-default, in_default-Each, in_default-FirstValue, in_default-FirstSubvalue}
 
-pub returns-then-number-eq0 : goal.returns-then-number-eq0
-returns-then-number-eq0 c = c.part.ensures.bytes ∙ ap (λ (ts : List Turn). reads c.args.item.now ts) (load_id _ _ _ _ c.if-number-eq0.true)
-
-pub returns-in-Each : goal.returns-in-Each
+pub returns : goal.returns
 unfolding repeat_of
-returns-in-Each c = loads _ _ _ _ c.in-Each.is c.if-number-eq0.false c.part-in-Each.ensures.bytes
-
-pub returns-in-FirstValue : goal.returns-in-FirstValue
-unfolding repeat_of
-returns-in-FirstValue c = loads _ _ _ _ c.in-FirstValue.is c.if-number-eq0.false c.part-in-FirstValue.ensures.bytes
-
-pub returns-in-FirstSubvalue : goal.returns-in-FirstSubvalue
-unfolding repeat_of
-returns-in-FirstSubvalue c = loads _ _ _ _ c.in-FirstSubvalue.is c.if-number-eq0.false c.part-in-FirstSubvalue.ensures.bytes
+returns c =
+    let part = c.part.ensures.bytes in
+    elim c.match-number.branch [
+      | in-0-default w ↦ (rw w.a-is at part) ∙ ap (λ (ts : List Turn). reads c.args.item.now ts) (load_id _ _ _ _ w.in-0-default.is-0)
+      | in_default-Each w ↦ loads _ _ _ _ w.in_default-Each.is-1 w.in_default-Each.is-0.1 (rw w.a-is at part)
+      | in_default-FirstValue w ↦ loads _ _ _ _ w.in_default-FirstValue.is-1 w.in_default-FirstValue.is-0.1 (rw w.a-is at part)
+      | in_default-FirstSubvalue w ↦ loads _ _ _ _ w.in_default-FirstSubvalue.is-1 w.in_default-FirstSubvalue.is-0.1 (rw w.a-is at part)
+    ]

@@ -3,12 +3,6 @@ use native.Mathlib.Omega.{arith}
 use Rattle.steps.proofs.Operands.{literal_ends, attribute_operand, literal_operand, previous_operand}
 use Rattle.steps.proofs.loading.operand.Goals as goal
 
-pub overflow_add-end : goal.overflow_add-end
-overflow_add-end c = omega (arith, literal_ends (rw c.in-Literal.is at c.requires))
-
-pub slice_bounds-result-end : goal.slice_bounds-result-end
-slice_bounds-result-end c = literal_ends (rw c.in-Literal.is at c.requires)
-
 pub returns-in-Attribute : goal.returns-in-Attribute
 returns-in-Attribute c = attribute_operand _ _ c.in-Attribute.is c.load.ensures
 

@@ -7,15 +7,11 @@ use Rattle.stack.proofs.Charges.{gave_fits, charges_as}
 use Rattle.steps.proofs.Elms.{binary_gave}
 use Rattle.steps.proofs.stepping.binary.Goals as goal
 
-pub binary-answer-requires : goal.binary-answer-requires
-binary-answer-requires c = (operator_scale c.requires.2, c.requires.3)
-
 pub charge_given-requires : goal.charge_given-requires
 unfolding entry_most
 charge_given-requires c =
-    let slotted = c.requires.0 in let room = c.requires.1 in record {
-      slotted = (
-        slotted,
+    let slotted = c.args.slots.now.slotted in let room = c.requires.0 in record {
+      room = (
         omega arith,
         omega (
           arith,
@@ -23,11 +19,11 @@ charge_given-requires c =
           entry_read slotted _ (omega arith) c.entry-top.ensures,
         ),
       );
-      answer_bound = (gave_fits entry_most _ c.binary-answer.ensures.value, omega (arith, c.requires.3, c.binary-answer.auto));
+      answer_bound = (gave_fits c.binary-answer.result entry_most _ c.binary-answer.ensures.value, omega (arith, c.requires.2, c.binary-answer.auto));
     }
 
 pub returns : goal.returns
 returns c =
     charges_as
-    (binary_gave _ _ _ _ _ _ c.entry-second.ensures c.entry-top.ensures c.binary-answer.ensures)
+    (binary_gave _ _ _ _ _ _ _ c.entry-second.ensures c.entry-top.ensures c.binary-answer.ensures)
     c.charge_given.ensures

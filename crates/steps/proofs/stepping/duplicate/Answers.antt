@@ -8,11 +8,11 @@ use Rattle.steps.proofs.stepping.duplicate.Goals as goal
 
 pub overflow_add-top : goal.overflow_add-top
 unfolding entry_most
-overflow_add-top c = omega (arith, c.requires.0.fits c.args.k)
+overflow_add-top c = omega (arith, c.args.slots.now.slotted.fits c.args.k)
 
 pub charge_copy-requires : goal.charge_copy-requires
 unfolding entry_most
-charge_copy-requires c = (c.requires.0, c.requires.1, omega arith, omega (arith, c.requires.0.fits c.args.k))
+charge_copy-requires c = (c.requires, omega arith, omega (arith, c.args.slots.now.slotted.fits c.args.k))
 
 pub returns : goal.returns
-returns c = charges_as (duplicate_taken _ _ _ _ _ (entry_length c.requires.0 c.args.k (omega arith))) c.charge_copy.ensures
+returns c = charges_as (duplicate_taken _ _ _ _ _ (entry_length c.args.slots.now.slotted c.args.k (omega arith))) c.charge_copy.ensures

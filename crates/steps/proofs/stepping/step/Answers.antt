@@ -11,40 +11,19 @@ pub push-requires : goal.push-requires
 push-requires c =
     let told = c.in-Push.is in
     let room = rw told at c.requires.3 in
-    (c.requires.0.slotted, push_rises _ _ room, c.requires.0.record_fits, push_operand (rw told at c.requires.1), room)
+    (push_rises _ _ room, c.requires.0.record_fits, push_operand (rw told at c.requires.1), room)
 
 pub overflow_sub-held : goal.overflow_sub-held
 unfolding elm_of shape
 overflow_sub-held c = let room = rw c.in-Binary.is at c.requires.3 in omega arith
 
-pub binary-requires : goal.binary-requires
-unfolding elm_of shape
-binary-requires c =
-    let told = c.in-Binary.is in
-    let room = rw told at c.requires.3 in
-    (c.requires.0.slotted, omega arith, binary_operator (rw told at c.requires.1), c.requires.0.work_fits)
-
 pub overflow_sub-held-in-Substring : goal.overflow_sub-held-in-Substring
 unfolding elm_of shape
 overflow_sub-held-in-Substring c = let room = rw c.in-Substring.is at c.requires.3 in omega arith
 
-pub substring-requires : goal.substring-requires
-unfolding elm_of shape
-substring-requires c =
-    let told = c.in-Substring.is in
-    let room = rw told at c.requires.3 in
-    (c.requires.0.slotted, omega arith, c.requires.0.work_fits)
-
 pub overflow_sub-held-in-Exchange : goal.overflow_sub-held-in-Exchange
 unfolding elm_of shape
 overflow_sub-held-in-Exchange c = let room = rw c.in-Exchange.is at c.requires.3 in omega arith
-
-pub charge_exchange-requires : goal.charge_exchange-requires
-unfolding elm_of shape
-charge_exchange-requires c =
-    let told = c.in-Exchange.is in
-    let room = rw told at c.requires.3 in
-    (c.requires.0.slotted, omega arith)
 
 pub overflow_sub-held-in-Duplicate : goal.overflow_sub-held-in-Duplicate
 unfolding elm_of shape
@@ -55,22 +34,11 @@ unfolding elm_of shape
 duplicate-requires c =
     let told = c.in-Duplicate.is in
     let room = rw told at c.requires.3 in
-    (c.requires.0.slotted, omega arith)
+    omega arith
 
 pub overflow_sub-held-in-Convert : goal.overflow_sub-held-in-Convert
 unfolding elm_of shape
 overflow_sub-held-in-Convert c = let room = rw c.in-Convert.is at c.requires.3 in omega arith
-
-pub convert-requires : goal.convert-requires
-unfolding elm_of shape
-convert-requires c =
-    let told = c.in-Convert.is in
-    let room = rw told at c.requires.3 in
-    (c.requires.0.slotted, omega arith, convert_conversion (rw told at c.requires.1), c.requires.0.work_fits)
-
-pub returns-in-Push : goal.returns-in-Push
-unfolding elm_of shape
-returns-in-Push c = charges_as (push_on _ _ _ _ _ _ c.in-Push.is) c.push.ensures
 
 pub returns-in-Binary : goal.returns-in-Binary
 unfolding elm_of shape

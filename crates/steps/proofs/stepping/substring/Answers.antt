@@ -9,7 +9,7 @@ use Rattle.steps.proofs.stepping.substring.Goals as goal
 pub overflow_add-taken-2 : goal.overflow_add-taken-2
 unfolding entry_most
 overflow_add-taken-2 c =
-    let slotted = c.requires.0 in
+    let slotted = c.args.slots.now.slotted in
     omega (
       arith,
       entry_read slotted _ (omega arith) c.entry-third.ensures,
@@ -20,9 +20,8 @@ overflow_add-taken-2 c =
 pub charge_given-requires : goal.charge_given-requires
 unfolding entry_most
 charge_given-requires c =
-    let slotted = c.requires.0 in let room = c.requires.1 in record {
-      slotted = (
-        slotted,
+    let slotted = c.args.slots.now.slotted in let room = c.requires.0 in record {
+      room = (
         omega arith,
         omega (
           arith,
@@ -31,11 +30,11 @@ charge_given-requires c =
           entry_read slotted _ (omega arith) c.entry-top.ensures,
         ),
       );
-      answer_bound = (gave_fits entry_most _ c.substring-answer.ensures.value, omega (arith, c.requires.2, c.substring-answer.auto));
+      answer_bound = (gave_fits c.substring-answer.result entry_most _ c.substring-answer.ensures.value, omega (arith, c.requires.1, c.substring-answer.auto));
     }
 
 pub returns : goal.returns
 returns c =
     charges_as
-    (substring_gave _ _ _ _ _ c.entry-third.ensures c.entry-second.ensures c.entry-top.ensures c.substring-answer.ensures)
+    (substring_gave _ _ _ _ _ _ c.entry-third.ensures c.entry-second.ensures c.entry-top.ensures c.substring-answer.ensures)
     c.charge_given.ensures
