@@ -1,6 +1,6 @@
 -- The answer as it grows in the output: what was gathered stands in front as long as it fits. Assumes nothing.
 use Rattle.std.specs.Prelude.{if◌then◌else◌}
-use Prim.Native.Nat.{ℕ, ◌+◌, ◌≤◌, ◌<◌}
+use Prim.Native.Nat.{ℕ, ◌+◌, ◌≤◌}
 use mathlib.Core.Path.{◌≡◌, refl, ap, ◌∙◌}
 use mathlib.Core.Bool.{Bool, true, false}
 use mathlib.Core.List.{[], ◌++◌}
@@ -8,7 +8,7 @@ use native.Mathlib.Omega.{arith}
 use lib.ListN.{length, take, drop, length-append}
 use lib.Seq.{take_at}
 use lib.Dec.{leb}
-use borrow.Author.Tests.{le-leb, lt-leb, leb-true}
+use borrow.Author.Tests.{le-leb, leb-true}
 use Rattle.paper.specs.Bytes.{Bytes}
 use Rattle.lent.specs.Over.{over}
 use Rattle.lent.proofs.Laws.{length_over}
@@ -17,10 +17,6 @@ use Rattle.elements.specs.Gather.{gathered_in, HoldsAnswer}
 pub gathered_room : (out : Bytes) (n : ℕ) (bs : Bytes) → n + length bs ≤ length out → gathered_in out n bs ≡ over out n bs
 unfolding gathered_in
 gathered_room out n bs h = rw (le-leb (n + length bs) (length out) h)
-
-pub gathered_full : (out : Bytes) (n : ℕ) (bs : Bytes) → length out < n + length bs → gathered_in out n bs ≡ out
-unfolding gathered_in
-gathered_full out n bs h = rw (lt-leb (n + length bs) (length out) h)
 
 pub gathered_length : (out : Bytes) (n : ℕ) (bs : Bytes) → length (gathered_in out n bs) ≡ length out
 unfolding gathered_in

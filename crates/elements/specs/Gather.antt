@@ -1,9 +1,11 @@
 -- The answer as it grows in the lent output, and what the walk over the elements comes to.
-use Rattle.std.specs.Prelude.{ℕ, ◌+◌, ◌≤◌, ◌≡◌, length, take, leb, if◌then◌else◌}
+use Rattle.std.specs.Prelude.{ℕ, ◌+◌, ◌≤◌, ◌≡◌, length, take, leb, if◌then◌else◌, Result}
 use Rattle.paper.specs.Bytes.{Bytes}
-use Rattle.paper.specs.Refusals.{Res, given, refused}
-use Rattle.paper.specs.Converting.{Outcome}
+use Rattle.paper.specs.Answers.{sized}
+use Rattle.paper.specs.Converting.{Ending, Outcome}
 use Rattle.lent.specs.Over.{over}
+use Rattle.machine.specs.declared.Stopped.{Stopped}
+use Rattle.machine.specs.Runs.{ending_by, answered}
 use Rattle.elements.specs.declared.Walked.{Walked}
 
 -- bytes behind `n` bytes of the answer, where there is room for them
@@ -14,10 +16,10 @@ gathered_in out n bs = if leb (n + length bs) (length out) then over out n bs el
 unfoldable pub HoldsAnswer : Bytes → Bytes → Type 0
 HoldsAnswer out answer = length answer ≤ length out → take (length answer) out ≡ answer
 
--- what the walk comes to, as the paper's outcome says
-abbrev pub walks : Res Bytes → ℕ → Walked
-walks (given bs) steps = Walked.Done steps (length bs)
-walks (refused n) steps = Walked.Stopped n steps
+-- what the walk comes to, as an ending with the answer's length
+abbrev pub walked_in : Result Walked Stopped → Ending ℕ
+walked_in = ending_by (λ w. answered w.length w.steps)
 
-unfoldable pub walked_of : Outcome → Walked
-walked_of o = walks o.answer o.steps
+-- and as the paper's outcome says
+abbrev pub walked_of : Outcome → Ending ℕ
+walked_of o = record { answer = sized o.answer; steps = o.steps }

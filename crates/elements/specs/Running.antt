@@ -1,17 +1,16 @@
--- What the walk's functions answer, as the enums of the code, through the paper's outcomes.
-use Rattle.std.specs.Prelude.{ℕ, ◌+◌, ◌≤◌, ◌≡◌, List, [], eqb, length, if◌then◌else◌}
+-- What the walk's functions answer, through the paper's outcomes.
+use Rattle.std.specs.Prelude.{ℕ, ◌+◌, ◌≤◌, ◌≡◌, List, [], eqb, length, if◌then◌else◌, Result}
 use Rattle.paper.specs.Bytes.{Bytes}
 use Rattle.paper.specs.Sizes.{entry_most, value_mark}
 use Rattle.paper.specs.Refusals.{Res, given, refused, answer_of}
 use Rattle.paper.specs.Steps.{element_run}
-use Rattle.paper.specs.Converting.{Outcome, within_budget, elements_run}
-use Rattle.stack.specs.Slots.{Slotted}
-use Rattle.machine.specs.declared.Ran.{Ran}
+use Rattle.paper.specs.Converting.{Ending, Outcome, within_budget, elements_run}
+use Rattle.machine.specs.declared.Stopped.{Stopped}
 use Rattle.machine.specs.declared.Meter.{Meter}
-use Rattle.machine.specs.Runs.{metered}
+use Rattle.machine.specs.Runs.{metered, answer_by}
 use Rattle.paper.specs.Codes.{Code}
 use Rattle.paper.specs.Checking.{accepted, check, codes_of}
-use Rattle.elements.specs.Gather.{gathered_in, HoldsAnswer, walked_of}
+use Rattle.elements.specs.Gather.{gathered_in, HoldsAnswer, walked_in, walked_of}
 use Rattle.elements.specs.Walk.{walked}
 use Rattle.steps.specs.declared.Position.{Position}
 use Rattle.elements.specs.declared.Walked.{Walked}
@@ -28,24 +27,18 @@ Accepts string = check string ≡ accepted (codes_in string)
 abbrev pub element_outcome : Bytes → Bytes → Position → Meter → Bytes → Outcome
 element_outcome item string place meter text = metered meter (element_run entry_most item place.v place.s (codes_in string) text)
 
--- the refusal of an element, passed up with the steps before it
-unfoldable pub stopped_as : Ran → Walked
-stopped_as (Ran.Stopped steps number) = Walked.Stopped number steps
-stopped_as (Ran.Done steps) = Walked.Stopped 0 steps
-
-abbrev pub added : ℕ → Res Bytes → ℕ → Walked
-added so_far (given bs) steps = Walked.Done steps (so_far + length bs)
-added so_far (refused n) steps = Walked.Stopped n steps
+-- the ending of an element, its answer's bytes counted behind those gathered before
+abbrev pub added : ℕ → Outcome → Ending ℕ
+added so_far = answer_by (λ bs. so_far + length bs)
 
 abbrev pub added_out : Bytes → ℕ → Res Bytes → Bytes
 added_out out so_far (given bs) = gathered_in out so_far bs
 added_out out so_far (refused n) = out
 
--- an element's answer behind what was gathered: the steps and the answer's length, the output, and the slots in order
-pub record Adds (o : Outcome) (so_far : ℕ) (r : Walked) (out out' scratch' : Bytes) (lens' : List ℕ) : Type 0 where
-  pub answers : r ≡ added so_far o.answer o.steps
+-- an element's answer behind what was gathered: the steps and the answer's length, and the output
+pub record Adds (o : Outcome) (so_far : ℕ) (r : Result Walked Stopped) (out out' : Bytes) : Type 0 where
+  pub answers : walked_in r ≡ added so_far o
   pub output : out' ≡ added_out out so_far o.answer
-  pub slotted : Slotted scratch' lens'
   pub short : length (answer_of o.answer) ≤ entry_most
 
 -- all elements of the bytes that an address reads
@@ -54,8 +47,8 @@ elements_outcome item string first budget text =
     within_budget budget 0 (elements_run entry_most item (codes_in string) (walked [] first.v first.s text))
 
 -- what the walk over them leaves: its answer, and the output with the whole answer in front where it fits
-pub record Walks (o : Outcome) (r : Walked) (out out' : Bytes) : Type 0 where
-  pub answers : r ≡ walked_of o
+pub record Walks (o : Outcome) (r : Result Walked Stopped) (out out' : Bytes) : Type 0 where
+  pub answers : walked_in r ≡ walked_of o
   pub held : HoldsAnswer out' (answer_of o.answer)
   pub room : length out' ≡ length out
 

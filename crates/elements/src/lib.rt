@@ -9,21 +9,23 @@ ghost use Rattle.stack.specs.Slots.{Lent};
 ghost use Rattle.machine.specs.Plans.{plan_of};
 ghost use Rattle.machine.specs.Runs.{Counted, Runs};
 ghost use Rattle.elements.specs.Gather.{gathered_in};
-ghost use Rattle.elements.specs.Running.{Accepts, element_outcome, elements_outcome, stopped_as, passed, Adds, Walks};
+ghost use Rattle.elements.specs.Running.{Accepts, element_outcome, elements_outcome, passed, Adds, Walks};
 
-use machine::{Meter, Plan, Ran};
-use paper::{Limit, Mark, refusal};
-use stack::slots;
+use codes::Conversion;
+use machine::{Meter, Standing, Stopped};
+use paper::{Limit, Mark, Refusal};
+use stack::slots::{ELEMENT, Slots};
 use steps::Position;
 
-// What the walk over the elements comes to: the steps and the answer's length, or the refusal and the steps before it.
+// What the walk over the elements comes to: the steps and the answer's length.
 #[derive(Clone, Copy)]
-pub enum Walked {
-    Done { steps: u64, length: usize },
-    Stopped { number: u64, steps: u64 },
+pub struct Walked {
+    pub steps: u64,
+    pub length: usize,
 }
 
 // Bytes of the answer behind the `so_far` bytes of it, where the output still has room; the answer's length with them.
+#[tactic(auto, unfolding(crate::specs::Gather::gathered_in))]
 fn gather(src: &[u8], out: &mut [u8], so_far: usize) -> usize
     requires { so_far + length src.now < 2 ^ 63 }
     ensures value { result ≡ so_far + length src.now }
@@ -40,75 +42,51 @@ fn gather(src: &[u8], out: &mut [u8], so_far: usize) -> usize
 fn element<'a>(
     item: &'a [u8],
     code: &'a [u8],
-    plan: Plan,
+    plan: Option<Conversion>,
     text: &[u8],
-    place: Position,
-    meter: Meter,
-    scratch: &mut [u8],
-    lens: &mut [usize],
+    here: Standing,
+    slots: &mut Slots,
     work: &mut [u8],
-) -> Ran
-    requires { Lent item.now scratch.old lens.old work.old × Accepts code.now × Counted meter × (plan ≡ plan_of code.now) }
-    ensures { Runs (element_outcome item.now code.now place meter text.now)
-        result scratch.new lens.new }
+) -> Result<u64, Stopped>
+    requires { Lent item.now work.old × Accepts code.now × Counted here.meter × (plan ≡ plan_of code.now) }
+    ensures { Runs (element_outcome item.now code.now here.place here.meter text.now)
+        result slots.new.scratch.now slots.new.lens }
 {
     if Limit::ENTRY.most < text.len() {
-        return Ran::Stopped {
-            number: refusal::OVER_LONG_ENTRY,
-            steps: meter.steps,
-        };
+        return Err(Stopped {
+            refusal: Refusal::OverLongEntry,
+            steps: here.meter.steps,
+        });
     }
-    slots::put(text, scratch, lens, slots::ELEMENT);
-    machine::running::run_codes(item, code, plan, place, meter, scratch, lens, work)
-}
-
-// The refusal of an element, passed up with the steps counted before it.
-fn stopped(ran: Ran) -> Walked
-    ensures { result ≡ stopped_as ran }
-{
-    match ran {
-        Ran::Done { steps } => Walked::Stopped { number: 0, steps },
-        Ran::Stopped { number, steps } => Walked::Stopped { number, steps },
-    }
-}
-
-// Where the walk stands: its element's own position, the steps counted under the budget, and the length of the answer so far.
-#[derive(Clone, Copy)]
-struct Standing {
-    place: Position,
-    meter: Meter,
-    so_far: usize,
+    slots.put(text, ELEMENT);
+    machine::running::run_codes(item, code, plan, here, slots, work)
 }
 
 // One element through all codes, its answer gathered in the output.
 fn add<'a>(
     item: &'a [u8],
     code: &'a [u8],
-    plan: Plan,
+    plan: Option<Conversion>,
     text: &[u8],
     here: Standing,
+    so_far: usize,
     out: &mut [u8],
-    scratch: &mut [u8],
-    lens: &mut [usize],
+    slots: &mut Slots,
     work: &mut [u8],
-) -> Walked
-    requires lent { Lent item.now scratch.old lens.old work.old × Accepts code.now × Counted here.meter × (here.so_far < 2 ^ 62) }
+) -> Result<Walked, Stopped>
+    requires lent { Lent item.now work.old × Accepts code.now × Counted here.meter × (so_far < 2 ^ 62) }
     requires plan_value { plan ≡ plan_of code.now }
     ensures { Adds (element_outcome item.now code.now here.place here.meter text.now)
-        here.so_far result out.old out.new scratch.new lens.new }
+        so_far result out.old out.new }
 {
-    let place = here.place;
-    let meter = here.meter;
-    let ran = element(item, code, plan, text, place, meter, scratch, lens, work);
-    let Ran::Done { steps } = ran else {
-        return stopped(ran);
-    };
-    let answer = slots::entry(&*scratch, &*lens, slots::ELEMENT);
-    let length = gather(answer, out, here.so_far);
-    Walked::Done { steps, length }
+    let steps = element(item, code, plan, text, here, slots, work)?;
+    let answer = slots.entry(ELEMENT);
+    let length = gather(answer, out, so_far);
+    Ok(Walked { steps, length })
 }
 
 // The position behind a mark.
+#[tactic(auto, unfolding(crate::specs::Running::passed))]
 fn pass(mark: u8, at: Position) -> Position
     requires { (at.v < 2 ^ 62) × (at.s < 2 ^ 62) }
     ensures { result ≡ passed mark at.v at.s }
@@ -122,7 +100,8 @@ fn pass(mark: u8, at: Position) -> Position
     }
 }
 
-// All elements of the bytes that an address reads, once from left to right, the marks between them kept.
+// All elements of the bytes that an address reads, once from left to right. The mark behind an element is gathered and tells the next position:
+// `split` drops it, and `split_inclusive` has no empty element behind a last one, so the walk goes by places.
 pub fn walk<'a>(
     item: &'a [u8],
     code: &'a [u8],
@@ -130,11 +109,10 @@ pub fn walk<'a>(
     from: Position,
     budget: u64,
     out: &mut [u8],
-    scratch: &mut [u8],
-    lens: &mut [usize],
+    slots: &mut Slots,
     work: &mut [u8],
-) -> Walked
-    requires lent { Lent item.now scratch.old lens.old work.old × Accepts code.now × (length text.now ≤ record_most) }
+) -> Result<Walked, Stopped>
+    requires lent { Lent item.now work.old × Accepts code.now × (length text.now ≤ record_most) }
     requires v_le_position_most { (from.v ≤ position_most) × (from.s ≤ position_most) }
     ensures { Walks (elements_outcome item.now code.now from budget text.now) result out.old out.new }
 {
@@ -145,23 +123,18 @@ pub fn walk<'a>(
     let mut so_far = 0;
     loop {
         let end = lent::next_within(text, at, text.len(), Mark::SUBVALUE.byte, Mark::VALUE.byte);
-        let meter = Meter { budget, steps };
         let here = Standing {
             place,
-            meter,
-            so_far,
+            meter: Meter { budget, steps },
         };
         let element = &text[at..end];
-        let added = add(item, code, plan, element, here, out, scratch, lens, work);
-        let Walked::Done { steps: now, length } = added else {
-            return added;
-        };
+        let added = add(item, code, plan, element, here, so_far, out, slots, work)?;
         if text.len() <= end {
-            return added;
+            return Ok(added);
         }
         let next = end + 1;
-        so_far = gather(&text[end..next], out, length);
-        steps = now;
+        so_far = gather(&text[end..next], out, added.length);
+        steps = added.steps;
         place = pass(text[end], place);
         at = next;
     }

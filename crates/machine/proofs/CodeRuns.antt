@@ -1,5 +1,5 @@
 -- The laws of one code's run: a code other than F on the element, and what the judgement of a code says of its head. Assumes nothing.
-use Rattle.std.specs.Prelude.{if◌then◌else◌}
+use Rattle.std.specs.Prelude.{if◌then◌else◌, Result, Ok, Err}
 use mathlib.Core.Path.{◌≡◌, refl, sym, ap, ◌∙◌}
 use mathlib.Core.Bool.{Bool, true, false}
 use mathlib.Core.List.{List, [], ◌∷◌}
@@ -12,9 +12,9 @@ use lib.Dec.{leb, eqb}
 use borrow.Author.Tests.{le-leb, lt-leb, leb-true, leb-false}
 use Rattle.paper.specs.Bytes.{Bytes, any}
 use Rattle.paper.specs.Sizes.{code_most, entry_most, is_mark}
-use Rattle.paper.specs.Refusals.{Res, given, refused, ◌>>=◌, ◌>>◌, over_budget, left_over_entries}
-use Rattle.paper.specs.declared.Given.{Given}
-use Rattle.paper.specs.Answers.{refusal_in}
+use Rattle.paper.specs.Refusals.{Res, given, refused, ◌>>=◌, ◌>>◌, left_over_entries}
+use Rattle.paper.specs.declared.Refusal.{Refusal}
+use Rattle.paper.specs.Answers.{number_of}
 use Rattle.paper.specs.Codes.{Conversion, Elm, Code}
 use Rattle.paper.specs.Grammar.{read}
 use Rattle.paper.specs.Checking.{conversion_kind, all_stacked, lawful, in_grammar, judged}
@@ -29,24 +29,24 @@ use Rattle.grammar.proofs.HeadReads.{functioned, read_by, head_reads, head_singl
 use Rattle.stack.specs.Slots.{element_slot, entry_at}
 use Rattle.giving.specs.Bounds.{ConversionWithin, charged_most}
 use Rattle.giving.proofs.Numbers.{charged_within}
-use Rattle.stack.specs.declared.Charge.{Charge}
 use Rattle.machine.specs.declared.Meter.{Meter}
-use Rattle.stack.specs.Charging.{taken_most, charge_of, charge_refusal, handed, taken_one}
+use Rattle.stack.specs.Charging.{taken_most, charge_of, handed, taken_one}
 use Rattle.steps.specs.Stepping.{converted_on}
 use Rattle.machine.specs.Runs.{metered, Counted, answered, stopped, read_run, Stacks, stacks, converting, judged_run, JudgedWell, judged_well}
-use Rattle.stack.proofs.Charges.{Gave, gave_handed}
+use Rattle.stack.proofs.Charges.{gave_handed}
+use Rattle.paper.proofs.Limits.{Answered}
 use Rattle.machine.proofs.Within.{conversion_reads, read_has}
 
 -- One code other than F, under a budget, by what it is charged.
 module _ (meter : Meter) (taken : ℕ) (counted : Counted meter) where
-  pub converting_charged : {charge : Charge} {cost : ℕ} (bs : Bytes) → charge ≡ charge_of taken (length bs) (meter.budget - meter.steps)
-      → charge ≡ Charge.Cost cost
+  pub converting_charged : {charge : Result ℕ Refusal} {cost : ℕ} (bs : Bytes) → charge ≡ charge_of taken (length bs) (meter.budget - meter.steps)
+      → charge ≡ Ok cost
       → (meter.steps + cost ≤ meter.budget) × (metered meter (converting taken (given bs)) ≡ answered bs (meter.steps + cost))
   unfolding within_budget converting charge_of
   converting_charged {charge} {cost} bs e f = go (leb (1 + taken + length bs) (meter.budget - meter.steps)) refl (sym e ∙ f)
     where
       go : (t : Bool) → leb (1 + taken + length bs) (meter.budget - meter.steps) ≡ t
-          → (if t then Charge.Cost (1 + taken + length bs) else Charge.Refused over_budget) ≡ Charge.Cost cost
+          → (if t then Ok (1 + taken + length bs) else Err Refusal.OverBudget) ≡ Ok cost
           → (meter.steps + cost ≤ meter.budget) × (metered meter (converting taken (given bs)) ≡ answered bs (meter.steps + cost))
       go true q g =
           let same : 1 + taken + length bs ≡ cost = cc in
@@ -55,25 +55,25 @@ module _ (meter : Meter) (taken : ℕ) (counted : Counted meter) where
           (omega arith, rw (fits, same))
       go false q g = let z : ◌≡◌ {A = ℕ} 0 1 = cc in absurd (omega arith)
 
-  pub converting_over : {charge : Charge} {n m : ℕ} (bs : Bytes) → charge ≡ charge_of taken (length bs) (meter.budget - meter.steps)
-      → charge ≡ Charge.Refused n → m ≡ charge_refusal charge → metered meter (converting taken (given bs)) ≡ stopped m meter.steps
+  pub converting_over : {charge : Result ℕ Refusal} {r : Refusal} (bs : Bytes) → charge ≡ charge_of taken (length bs) (meter.budget - meter.steps)
+      → charge ≡ Err r → metered meter (converting taken (given bs)) ≡ stopped (number_of r) meter.steps
   unfolding within_budget converting charge_of
-  converting_over {charge} {n} {m} bs e f r = go (leb (1 + taken + length bs) (meter.budget - meter.steps)) refl (sym e ∙ f) (r ∙ ap charge_refusal f)
+  converting_over {charge} {r} bs e f = go (leb (1 + taken + length bs) (meter.budget - meter.steps)) refl (sym e ∙ f)
     where
       go : (t : Bool) → leb (1 + taken + length bs) (meter.budget - meter.steps) ≡ t
-          → (if t then Charge.Cost (1 + taken + length bs) else Charge.Refused over_budget) ≡ Charge.Refused n → m ≡ n
-          → metered meter (converting taken (given bs)) ≡ stopped m meter.steps
-      go true q g k = let z : ◌≡◌ {A = ℕ} 0 1 = cc in absurd (omega arith)
-      go false q g k =
-          let same : over_budget ≡ n = cc in
+          → (if t then Ok (1 + taken + length bs) else Err Refusal.OverBudget) ≡ Err r
+          → metered meter (converting taken (given bs)) ≡ stopped (number_of r) meter.steps
+      go true q g = let z : ◌≡◌ {A = ℕ} 0 1 = cc in absurd (omega arith)
+      go false q g =
+          let same : Refusal.OverBudget ≡ r = cc in
           let h : meter.budget - meter.steps < 1 + taken + length bs = leb-false _ _ q in
           let over : leb (meter.steps + (1 + taken + length bs)) meter.budget ≡ false = lt-leb (meter.steps + (1 + taken + length bs)) meter.budget (omega arith) in
-          rw (over, k, same)
+          rw (over, ← same)
 
-  pub converting_refused : {answer : Given} {n m : ℕ} (work : Bytes) → m ≡ refusal_in answer → answer ≡ Given.Refused n
-      → metered meter (converting taken (handed answer work)) ≡ stopped m meter.steps
-  unfolding within_budget converting handed refusal_in
-  converting_refused work p e = rw (p, e)
+  pub converting_refused : {answer : Result ℕ Refusal} {r : Refusal} (work : Bytes) → answer ≡ Err r
+      → metered meter (converting taken (handed answer work)) ≡ stopped (number_of r) meter.steps
+  unfolding within_budget converting
+  converting_refused work e = rw e
 
 -- what a code is charged is within what a step may take
 pub charge_takes : {n : ℕ} → n ≤ charged_most → n ≤ taken_most
@@ -81,11 +81,12 @@ unfolding entry_most
 charge_takes h = omega arith
 
 -- what the code gave on the element in its slot
-pub single_gave : {answer : Given} {work' element : Bytes} {taken : ℕ} (scratch : Bytes) (lens : List ℕ) (q : Converted) (c : Conversion) (work : Bytes)
-    → element ≡ entry_at scratch lens element_slot → Gave (limited entry_most (conversion_gives c element)) answer work work'
+pub single_gave : (answer : Result ℕ Refusal) {work' element : Bytes} {taken : ℕ} (scratch : Bytes) (lens : List ℕ)
+    (q : Converted) (c : Conversion) (work : Bytes)
+    → element ≡ entry_at scratch lens element_slot → Answered (limited entry_most (conversion_gives c element)) work work' answer
     → taken ≡ charged (kind_of q) 0 (length element)
     → converting (charged (kind_of q) 0 (taken_one scratch lens element_slot)) (converted_on c scratch lens element_slot) ≡ converting taken (handed answer work')
-single_gave scratch lens q c work e g t = rw (gave_handed _ work g, t, e)
+single_gave answer scratch lens q c work e g t = rw (gave_handed answer _ work g, t, e)
 
 -- the paper's run of it
 single_run : (c : Setting) (k : Conversion)

@@ -1,3 +1,4 @@
+pub mod Endings
 pub mod Within
 pub mod Turns
 pub mod CodeRuns

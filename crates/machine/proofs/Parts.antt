@@ -1,5 +1,5 @@
 -- The laws of an element's run through all codes, code by code: what the rest gives from the start is what it gives from here. Assumes nothing.
-use Rattle.std.specs.Prelude.{if◌then◌else◌}
+use Rattle.std.specs.Prelude.{if◌then◌else◌, Ok, Err}
 use mathlib.Core.Path.{◌≡◌, refl, sym, ap, ◌∙◌}
 use mathlib.Core.Bool.{Bool, true, false}
 use mathlib.Core.List.{List, [], ◌∷◌}
@@ -20,39 +20,22 @@ use Rattle.paper.proofs.Budget.{budget_kept}
 use Rattle.paper.proofs.Runs.{resumed, budget_onward}
 use Rattle.grammar.specs.Heads.{code_end}
 use Rattle.grammar.proofs.Cuts.{end_within, split_last, split_more}
-use Rattle.machine.specs.declared.Ran.{Ran}
+use Rattle.machine.specs.declared.Stopped.{Stopped}
 use Rattle.steps.specs.declared.Position.{Position}
 use Rattle.machine.specs.declared.Meter.{Meter}
-use Rattle.stack.specs.Slots.{element_slot, entry_at, Slotted, Lent}
+use Rattle.stack.specs.Slots.{element_slot, entry_at, Lent}
 use Rattle.steps.specs.Stepping.{setting, setting_of}
-use Rattle.machine.specs.Runs.{Counted, answered, stopped, ran_of, Answers, Runs, codes_outcome, judged_run, JudgedWell, judged_well, checked_run, Accepted, is_accepted}
-use Rattle.machine.proofs.Turns.{runs_as}
+use Rattle.machine.specs.Runs.{answered, Runs, codes_outcome, judged_run, JudgedWell, judged_well, checked_run, Accepted, is_accepted}
+use Rattle.machine.proofs.Endings.{stopped_as, answered_as}
+use Rattle.machine.proofs.Turns.{runs_as, runs_stopped}
 
 -- what the code's answer says of the outcome
-done_is : {scratch : Bytes} {lens : List ℕ} {ran : Ran} {m : ℕ} (o : Outcome) → Runs o ran scratch lens → ran ≡ Ran.Done m
-    → o ≡ answered (entry_at scratch lens element_slot) m
-unfolding ran_of
-done_is {scratch} {lens} {ran} {m} o runs e = go o.answer refl runs.element (sym runs.answers ∙ e)
-  where
-    go : (x : Res Bytes) → o.answer ≡ x → Answers o.answer (entry_at scratch lens element_slot) → ran_of o ≡ Ran.Done m
-        → o ≡ answered (entry_at scratch lens element_slot) m
-    go (given bs) f a g =
-        let there : entry_at scratch lens element_slot ≡ bs = rw f at a in
-        let count : o.steps ≡ m = let q : Ran.Done o.steps ≡ Ran.Done m = rw f at g in cc in
-        rw (there, ← count, ← f)
-    go (refused n) f a g = let q : Ran.Stopped o.steps n ≡ Ran.Done m = rw f at g in let z : ◌≡◌ {A = ℕ} 0 1 = cc in absurd (omega arith)
-
-stopped_is : {scratch : Bytes} {lens : List ℕ} {ran : Ran} {n m : ℕ} (o : Outcome) → Runs o ran scratch lens → ran ≡ Ran.Stopped m n → o ≡ stopped n m
-unfolding ran_of
-stopped_is {scratch} {lens} {ran} {n} {m} o runs e = go o.answer refl (sym runs.answers ∙ e)
-  where
-    go : (x : Res Bytes) → o.answer ≡ x → ran_of o ≡ Ran.Stopped m n → o ≡ stopped n m
-    go (given bs) f g = let q : Ran.Done o.steps ≡ Ran.Stopped m n = rw f at g in let z : ◌≡◌ {A = ℕ} 0 1 = cc in absurd (omega arith)
-    go (refused k) f g =
-        let q : Ran.Stopped o.steps k ≡ Ran.Stopped m n = rw f at g in
-        let number : k ≡ n = cc in
-        let count : o.steps ≡ m = cc in
-        rw (← number, ← count, ← f)
+done_is : {scratch : Bytes} {lens : List ℕ} {steps : ℕ} (o : Outcome) → Runs o (Ok steps) scratch lens
+    → o ≡ answered (entry_at scratch lens element_slot) steps
+done_is {scratch} {lens} o runs =
+    let whole = answered_as (λ bs. tt) o runs.answers in
+    let there : entry_at scratch lens element_slot ≡ whole.0 = rw whole.1 at runs.element in
+    rw there whole.1
 
 not_faulty : {x : Checked} {n k : ℕ} → Accepted x → x ≡ faulty n k → ⊥
 not_faulty is_accepted e = let z : ◌≡◌ {A = ℕ} 0 1 = cc in omega arith
@@ -91,16 +74,12 @@ module _ (item string : Bytes) (place : Position) (meter : Meter) (scratch₀ : 
 
   pub record Part (at steps : ℕ) (scratch : Bytes) (lens : List ℕ) (work : Bytes) : Type 0 where
     pub number : ℕ
-    pub lent : Lent item scratch lens work
+    pub lent : Lent item work
     pub within_string : at ≤ length string
     pub short : length string ≤ code_most
     pub counted : steps ≤ budget
     pub ready : Accepted (left_at number at)
     pub same : whole_run ≡ within_budget budget steps (checked_run item place (left_at number at) (entry_at scratch lens element_slot))
-
-  pub part_first : {work : Bytes} → Lent item scratch₀ lens₀ work → Counted meter → Accepted (judged_all 1 (split 253 string)) → length string ≤ code_most
-      → Part 0 meter.steps scratch₀ lens₀ work
-  part_first lent h ready short = record { number = 1; lent = lent; within_string = omega arith; short = short; counted = h; ready = ready; same = refl }
 
   module _ {at steps : ℕ} {scratch : Bytes} {lens : List ℕ} {work : Bytes} (part : Part at steps scratch lens work) {end : ℕ}
       (e : end ≡ code_end (drop at string) at) where
@@ -136,22 +115,22 @@ module _ (item string : Bytes) (place : Position) (meter : Meter) (scratch₀ : 
           ∙ ap (λ (r : Run Bytes). within_budget budget steps r) (first_run item place part.number (judged this_code) (judged_all (suc part.number) tail) (entry_at scratch lens element_slot) there)
           ∙ budget_onward (judged_run (setting_of item place scratch lens) (judged this_code)) those_after budget steps
 
-      module _ {ran : Ran} {scratch' : Bytes} {lens' : List ℕ} (runs : Runs this_run ran scratch' lens') where
-        stops : {n m : ℕ} → ran ≡ Ran.Stopped m n → Runs whole_run ran scratch' lens'
-        unfolding resumed
-        stops q =
-            let o : this_run ≡ _ = stopped_is this_run runs q in
-            runs_as (by_code ∙ ap (resumed budget those_after) o ∙ sym o) runs
+      stops : {s : Stopped} {scratch' : Bytes} {lens' : List ℕ} → Runs this_run (Err s) scratch' lens' → Runs whole_run (Err s) scratch' lens'
+      unfolding resumed
+      stops {s} runs =
+          runs_stopped s.refusal s.steps
+          (by_code ∙ ap (resumed budget those_after) (stopped_as (λ bs. tt) this_run runs.answers))
 
-        goes : {m : ℕ} → ran ≡ Ran.Done m → whole_run ≡ within_budget budget m (those_after (entry_at scratch' lens' element_slot))
+      module _ {m : ℕ} {scratch' : Bytes} {lens' : List ℕ} (runs : Runs this_run (Ok m) scratch' lens') where
+        goes : whole_run ≡ within_budget budget m (those_after (entry_at scratch' lens' element_slot))
         unfolding resumed
-        goes q = by_code ∙ ap (resumed budget those_after) (done_is this_run runs q)
+        goes = by_code ∙ ap (resumed budget those_after) (done_is this_run runs)
 
-        goes_within : {m : ℕ} → ran ≡ Ran.Done m → m ≤ budget
-        goes_within q =
+        goes_within : m ≤ budget
+        goes_within =
             omega (
               arith,
-              ap (λ (o : Outcome). o.steps) (done_is this_run runs q),
+              ap (λ (o : Outcome). o.steps) (done_is this_run runs),
               budget_kept (judged_run (setting_of item place scratch lens) (judged this_code)) budget steps part.counted,
             )
 
@@ -171,37 +150,33 @@ module _ (item string : Bytes) (place : Position) (meter : Meter) (scratch₀ : 
     pub part_well : JudgedWell (judged this_code)
     part_well = (split_well behind cut_there).0
 
-    module _ {ran : Ran} {scratch' : Bytes} {lens' : List ℕ} (runs : Runs this_run ran scratch' lens') where
-      pub part_stops : {n m : ℕ} → ran ≡ Ran.Stopped m n → Runs whole_run ran scratch' lens'
-      part_stops q = stops behind cut_there runs q
+    pub part_stops : {s : Stopped} {scratch' : Bytes} {lens' : List ℕ} → Runs this_run (Err s) scratch' lens' → Runs whole_run (Err s) scratch' lens'
+    part_stops runs = stops behind cut_there runs
 
-      module _ {m : ℕ} (q : ran ≡ Ran.Done m) where
-        pub part_last : end ≡ length string → Runs whole_run (Ran.Done m) scratch' lens'
-        unfolding judged_all checked_run codes_run within_budget
-        part_last h =
-            runs_as
-            (goes [] (split_last string at part.within_string e h) runs q ∙ sym (done_is this_run runs q))
-            (rw q at runs)
+    module _ {m : ℕ} {scratch' : Bytes} {lens' : List ℕ} (runs : Runs this_run (Ok m) scratch' lens') where
+      pub part_last : end ≡ length string → Runs whole_run (Ok m) scratch' lens'
+      unfolding judged_all checked_run codes_run within_budget
+      part_last h = runs_as (goes [] (split_last string at part.within_string e h) runs ∙ sym (done_is this_run runs)) runs
 
-        pub part_more : {work' : Bytes} → length work' ≡ length work → (end ≡ length string → ⊥) → Part (end + 1) m scratch' lens' work'
-        part_more w ne =
-            let cut = split_more string at part.within_string e ne in
-            record {
-              number = suc part.number;
-              lent = record { record_fits = part.lent.record_fits; slotted = runs.slotted; work_fits = omega (arith, part.lent.work_fits) };
-              within_string = omega (arith, part_ends);
-              short = part.short;
-              counted = goes_within behind cut_there runs q;
-              ready = (split_well _ cut).1;
-              same = goes _ cut runs q;
-            }
+      pub part_more : {work' : Bytes} → length work' ≡ length work → (end ≡ length string → ⊥) → Part (end + 1) m scratch' lens' work'
+      part_more w ne =
+          let cut = split_more string at part.within_string e ne in
+          record {
+            number = suc part.number;
+            lent = record { record_fits = part.lent.record_fits; work_fits = omega (arith, part.lent.work_fits) };
+            within_string = omega (arith, part_ends);
+            short = part.short;
+            counted = goes_within behind cut_there runs;
+            ready = (split_well _ cut).1;
+            same = goes _ cut runs;
+          }
 
 -- an empty string has no codes: the element is the answer
-pub no_codes : {scratch : Bytes} {lens : List ℕ} (item string : Bytes) (place : Position) (meter : Meter) → Slotted scratch lens → length string ≡ 0
-    → Runs (codes_outcome item (check string) place meter scratch lens) (Ran.Done meter.steps) scratch lens
-unfolding within_budget check code_texts judged_all checked_run codes_run ran_of
-no_codes item [] place meter slotted h = record { answers = refl; element = refl; slotted = slotted }
-no_codes item (b ∷ bs) place meter slotted h = absurd (omega arith)
+pub no_codes : {scratch : Bytes} {lens : List ℕ} (item string : Bytes) (place : Position) (meter : Meter) → length string ≡ 0
+    → Runs (codes_outcome item (check string) place meter scratch lens) (Ok meter.steps) scratch lens
+unfolding within_budget check code_texts judged_all checked_run codes_run
+no_codes item [] place meter h = record { answers = refl; element = refl }
+no_codes item (b ∷ bs) place meter h = absurd (omega arith)
 
 -- what was accepted is not over-long
 pub checked_short : (string : Bytes) → Accepted (check string) → length string ≤ code_most

@@ -1,5 +1,7 @@
 -- What a plan says of an accepted string: where it is a single code, every element's run is the one step of that code. Assumes nothing.
-use Rattle.std.specs.Prelude.{if◌then◌else◌}
+use Rattle.std.specs.Prelude.{if◌then◌else◌, Some, None}
+use Rattle.std.specs.Prelude.{Option as Maybe}
+use Rattle.std.specs.Bool.{then_some}
 use mathlib.Core.Path.{◌≡◌, refl, ap, ◌∙◌}
 use mathlib.Core.Bool.{Bool, true, false}
 use mathlib.Core.List.{[], ◌∷◌}
@@ -9,7 +11,7 @@ use native.Mathlib.Omega.{arith}
 use lib.ListN.{length}
 use lib.Seq.{take_all}
 use lib.Dec.{eqb}
-use borrow.Author.Tests.{eq-eqb, ne_eqb, eqb-true}
+use borrow.Author.Tests.{eqb-true}
 use Rattle.paper.specs.Bytes.{Bytes}
 use Rattle.paper.specs.Sizes.{code_most, entry_most}
 use Rattle.paper.specs.Refusals.{Res, given, refused}
@@ -22,7 +24,6 @@ use Rattle.codes.specs.Counting.{kind_of}
 use Rattle.grammar.specs.declared.Head.{Head}
 use Rattle.grammar.specs.Heads.{head, code_end}
 use Rattle.grammar.proofs.Cuts.{split_last}
-use Rattle.machine.specs.declared.Plan.{Plan}
 use Rattle.steps.specs.declared.Position.{Position}
 use Rattle.giving.specs.Bounds.{ConversionWithin}
 use Rattle.steps.specs.Stepping.{setting}
@@ -33,22 +34,22 @@ use Rattle.machine.proofs.Parts.{accepted_parts, first_run}
 
 -- the plan, way by way
 module _ (string : Bytes) where
-  pub plan_function : {first : ℕ} → head string ≡ some (Head.Function first) → Plan.Codes ≡ plan_of string
+  pub plan_function : {first : ℕ} → head string ≡ some (Head.Function first) → None ≡ plan_of string
   unfolding plan_of planned
   plan_function f = rw f
 
-  pub plan_bad : head string ≡ none → Plan.Codes ≡ plan_of string
+  pub plan_bad : head string ≡ none → None ≡ plan_of string
   unfolding plan_of planned
   plan_bad f = rw f
 
-  module _ {c : Conversion} (f : head string ≡ some (Head.Single c)) {end : ℕ} (g : end ≡ code_end string 0) where
-    pub plan_alone : end ≡ length string → Plan.Single c ≡ plan_of string
-    unfolding plan_of planned
-    plan_alone k = rw (f, ← g, eq-eqb end (length string) k)
-
-    pub plan_parted : (end ≡ length string → ⊥) → Plan.Codes ≡ plan_of string
-    unfolding plan_of planned
-    plan_parted k = rw (f, ← g, ne_eqb end (length string) k)
+  pub plan_single : {c : Conversion} {end : ℕ} {plan : Maybe Conversion} → head string ≡ some (Head.Single c) → end ≡ code_end string 0
+      → plan ≡ then_some (eqb end (length string)) c → plan ≡ plan_of string
+  unfolding plan_of planned
+  plan_single {c} {end} {plan} f g e = rw (f, ← g, e) (go (eqb end (length string)))
+    where
+      go : (t : Bool) → then_some t c ≡ (if t then Some c else None)
+      go true = refl
+      go false = refl
 
 -- the answer of a single code is that of the string, with no code after it
 last_run : (item : Bytes) (place : Position) (taken : ℕ) (x : Res Bytes)
@@ -57,17 +58,17 @@ unfolding onward converting checked_run codes_run
 last_run item place taken (refused n) = refl
 last_run item place taken (given bs) = refl
 
-module _ {c : Conversion} (string : Bytes) (ready : Accepted (judged_all 1 (split 253 string))) (short : length string ≤ code_most) (e : Plan.Single c ≡ plan_of string) where
+module _ {c : Conversion} (string : Bytes) (ready : Accepted (judged_all 1 (split 253 string))) (short : length string ≤ code_most) (e : Some c ≡ plan_of string) where
   -- no mark parts it
   alone : (head string ≡ some (Head.Single c)) × (code_end string 0 ≡ length string)
   unfolding plan_of planned
   alone = go (head string) refl e
     where
-      go : (h : Option Head) → head string ≡ h → Plan.Single c ≡ planned string h → (head string ≡ some (Head.Single c)) × (code_end string 0 ≡ length string)
+      go : (h : Option Head) → head string ≡ h → Some c ≡ planned string h → (head string ≡ some (Head.Single c)) × (code_end string 0 ≡ length string)
       go (some (Head.Function first)) f g = let z : ◌≡◌ {A = ℕ} 0 1 = cc in absurd (omega arith)
       go (some (Head.Single k)) f g = pick (eqb (code_end string 0) (length string)) refl g
         where
-          pick : (t : Bool) → eqb (code_end string 0) (length string) ≡ t → Plan.Single c ≡ (if t then Plan.Single k else Plan.Codes)
+          pick : (t : Bool) → eqb (code_end string 0) (length string) ≡ t → Some c ≡ (if t then Some k else None)
               → (head string ≡ some (Head.Single c)) × (code_end string 0 ≡ length string)
           pick true q g = let same : k ≡ c = cc in (f ∙ ap (λ (x : Conversion). some (Head.Single x)) same, eqb-true _ _ q)
           pick false q g = let z : ◌≡◌ {A = ℕ} 0 1 = cc in absurd (omega arith)

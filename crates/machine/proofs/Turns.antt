@@ -1,5 +1,5 @@
 -- The laws of an F code's run, elm by elm: what the rest gives from the start is what it gives from here. Assumes nothing.
-use Rattle.std.specs.Prelude.{if◌then◌else◌}
+use Rattle.std.specs.Prelude.{if◌then◌else◌, Result, Ok, Err}
 use mathlib.Core.Path.{◌≡◌, refl, sym, ap, ◌∙◌}
 use mathlib.Core.Bool.{Bool, true, false}
 use mathlib.Core.List.{List, []}
@@ -12,6 +12,8 @@ use borrow.Author.Tests.{le-leb, lt-leb, leb-true, leb-false, eq-eqb, ne_eqb, eq
 use Rattle.paper.specs.Bytes.{Bytes}
 use Rattle.paper.specs.Sizes.{code_most, entry_most, stack_most}
 use Rattle.paper.specs.Refusals.{Res, given, refused, ◌>>=◌, ◌>>◌, refuse◌unless◌, over_budget}
+use Rattle.paper.specs.declared.Refusal.{Refusal}
+use Rattle.paper.specs.Answers.{number_of, told}
 use Rattle.paper.specs.Codes.{Elm}
 use Rattle.paper.specs.Checking.{shape, stacked, all_stacked, Room}
 use Rattle.paper.specs.Steps.{Setting, Run, step, stepped, onward, elm_step, elms_run, top_entry}
@@ -28,58 +30,52 @@ use Rattle.grammar.specs.Heads.{elms_from}
 use Rattle.readers.proofs.Bytes.{after_inside}
 use Rattle.grammar.proofs.Parted.{elm_onto, elm_within, elms_none, elms_last, elms_more, elms_stray}
 use Rattle.stack.specs.declared.Step.{Step}
-use Rattle.machine.specs.declared.Ran.{Ran}
+use Rattle.machine.specs.declared.Stopped.{Stopped}
 use Rattle.machine.specs.declared.Stretch.{Stretch}
 use Rattle.steps.specs.declared.Position.{Position}
 use Rattle.machine.specs.declared.Meter.{Meter}
 use Rattle.stack.specs.Slots.{slots, element_slot, entry_at, stack_of, Slotted, Lent}
 use Rattle.steps.specs.Bounds.{ElmWithin}
-use Rattle.stack.specs.Charging.{step_of, stack_after, held_after, step_refusal, Charges}
+use Rattle.stack.specs.Charging.{step_of, stack_after, held_after, Charges}
 use Rattle.steps.specs.Stepping.{setting_of, ElmCharges}
-use Rattle.machine.specs.Runs.{metered, Counted, answered, stopped, ran_of, Runs, stretch_of, Leaves, Stretches, stopped_as, read_run, elms_outcome, Stacks, stacks}
-use Rattle.stack.proofs.Putting.{Put, entry_fits, after_same, after_slotted}
+use Rattle.machine.specs.Runs.{metered, Counted, answered, stopped, Runs, Leaves, Stretches, read_run, elms_outcome, Stacks, stacks}
+use Rattle.stack.proofs.Putting.{Put, entry_fits, after_same}
 use Rattle.stack.proofs.Charges.{stack_length}
+use Rattle.machine.proofs.Endings.{stopped_as, answered_as}
 use Rattle.machine.proofs.Within.{elm_reads, read_has}
 
-pub runs_stopped : {o : Outcome} {scratch : Bytes} {lens : List ℕ} (n steps : ℕ) → Slotted scratch lens → o ≡ stopped n steps
-    → Runs o (Ran.Stopped steps n) scratch lens
-unfolding ran_of
-runs_stopped n steps slotted e = rw e (record { answers = refl; element = tt; slotted = slotted })
+pub runs_stopped : {o : Outcome} {scratch : Bytes} {lens : List ℕ} (e : Refusal) (steps : ℕ) → o ≡ stopped (number_of e) steps
+    → Runs o (Err (record { refusal = e; steps = steps })) scratch lens
+runs_stopped e steps p = rw p (record { answers = refl; element = tt })
 
 -- bytes put into the element's slot are a run's answer
 pub runs_answered : {scratch scratch' : Bytes} {lens lens' : List ℕ} → Slotted scratch lens → (bs : Bytes) (steps : ℕ) → length bs ≤ entry_most
-    → Put scratch lens element_slot bs scratch' lens' → Runs (answered bs steps) (Ran.Done steps) scratch' lens'
-unfolding ran_of
+    → Put scratch lens element_slot bs scratch' lens' → Runs (answered bs steps) (Ok steps) scratch' lens'
 runs_answered slotted bs steps fit put =
-    record {
-      answers = refl;
-      element = after_same slotted element_slot bs (omega arith) fit put;
-      slotted = after_slotted slotted element_slot bs (omega arith) fit put;
-    }
+    record { answers = refl; element = after_same slotted element_slot bs (omega arith) fit put }
 
 -- the same run said in another way
-pub runs_as : {o q : Outcome} {r : Ran} {scratch : Bytes} {lens : List ℕ} → o ≡ q → Runs q r scratch lens → Runs o r scratch lens
+pub runs_as : {o q : Outcome} {r : Result ℕ Stopped} {scratch : Bytes} {lens : List ℕ} → o ≡ q → Runs q r scratch lens → Runs o r scratch lens
 runs_as e t = rw e t
 
 -- the same of a stretch
-pub stretch_stopped : {o : Ending (List Bytes)} {scratch : Bytes} {lens : List ℕ} (n steps : ℕ) → Slotted scratch lens → o ≡ stopped n steps
-    → Stretches o (Stretch.Stopped steps n) scratch lens
-unfolding stretch_of
-stretch_stopped n steps slotted e = rw e (record { answers = refl; stack = tt; slotted = slotted })
+stretch_stopped : {o : Ending (List Bytes)} {scratch : Bytes} {lens : List ℕ} (e : Refusal) (steps : ℕ)
+    → o ≡ stopped (number_of e) steps → Stretches o (Err (record { refusal = e; steps = steps })) scratch lens
+stretch_stopped e steps p = rw p (record { answers = refl; stack = tt })
 
-pub stretch_refused : {o : Ending (List Bytes)} {step : Step} {scratch : Bytes} {lens : List ℕ} {k m steps : ℕ} → k ≡ step_refusal step
-    → step ≡ Step.Refused m → Stretches o (Stretch.Stopped steps m) scratch lens → Stretches o (Stretch.Stopped steps k) scratch lens
-stretch_refused e told t = rw (e ∙ ap step_refusal told) t
+-- the cost of a step and the entries then held
+abbrev tells : ℕ × List Bytes → Step
+tells y = record { cost = y.0; held = length y.1 }
 
 -- One step under a budget, with so much of it left.
 module _ (budget steps : ℕ) (x : Res (ℕ × List Bytes)) (k : List Bytes → Run (List Bytes)) (within : steps ≤ budget) where
   -- its own refusal, or 15
-  pub step_stops : (n : ℕ) → step_of (budget - steps) x ≡ Step.Refused n → within_budget budget steps (stepped x k) ≡ stopped n steps
+  pub step_stops : (n : ℕ) → step_of (budget - steps) x ≡ refused n → within_budget budget steps (stepped x k) ≡ stopped n steps
   unfolding step_of stepped within_budget
   step_stops n e = go x e
     where
       paid : (t : Bool) (y : ℕ × List Bytes) → leb y.0 (budget - steps) ≡ t
-          → (if t then Step.Done y.0 (length y.1) else Step.Refused over_budget) ≡ Step.Refused n
+          → (if t then given (tells y) else refused over_budget) ≡ refused n
           → within_budget budget steps (step y.0 (k y.1)) ≡ stopped n steps
       paid true y f e = let z : ◌≡◌ {A = ℕ} 0 1 = cc in absurd (omega arith)
       paid false y f e =
@@ -88,7 +84,7 @@ module _ (budget steps : ℕ) (x : Res (ℕ × List Bytes)) (k : List Bytes → 
           let same : over_budget ≡ n = cc in
           rw (over, same)
 
-      go : (x : Res (ℕ × List Bytes)) → step_of (budget - steps) x ≡ Step.Refused n → within_budget budget steps (stepped x k) ≡ stopped n steps
+      go : (x : Res (ℕ × List Bytes)) → step_of (budget - steps) x ≡ refused n → within_budget budget steps (stepped x k) ≡ stopped n steps
       go (refused m) e = let same : m ≡ n = cc in rw same
       go (given y) e = paid (leb y.0 (budget - steps)) y refl e
 
@@ -101,27 +97,28 @@ module _ (budget steps : ℕ) (x : Res (ℕ × List Bytes)) (k : List Bytes → 
     pub counted : steps + cost ≤ budget
     pub goes_on : within_budget budget steps (stepped x k) ≡ within_budget budget (steps + cost) (k after)
 
-  pub step_goes : (cost n : ℕ) → step_of (budget - steps) x ≡ Step.Done cost n → Paid cost n
+  pub step_goes : (s : Step) → step_of (budget - steps) x ≡ given s → Paid s.cost s.held
   unfolding step_of stepped within_budget stack_after
-  step_goes cost n e = go x refl e
+  step_goes s e = go x refl e
     where
       paid : (t : Bool) (y : ℕ × List Bytes) → x ≡ given y → leb y.0 (budget - steps) ≡ t
-          → (if t then Step.Done y.0 (length y.1) else Step.Refused over_budget) ≡ Step.Done cost n → Paid cost n
+          → (if t then given (tells y) else refused over_budget) ≡ given s → Paid s.cost s.held
       paid false y g f e = let z : ◌≡◌ {A = ℕ} 0 1 = cc in absurd (omega arith)
       paid true y g f e =
-          let same : y.0 ≡ cost = cc in
+          let whole : tells y ≡ s = cc in
+          let same : y.0 ≡ s.cost = ap (λ (q : Step). q.cost) whole in
           let h : y.0 ≤ budget - steps = leb-true _ _ f in
           let fits : leb (steps + y.0) budget ≡ true = le-leb (steps + y.0) budget (omega arith) in
           record {
             after = y.1;
             given_is = g ∙ ap (λ (m : ℕ). given (m, y.1)) same;
             stack_is = rw (g, f);
-            long = cc;
+            long = ap (λ (q : Step). q.held) whole;
             counted = omega arith;
             goes_on = rw (g, fits, same);
           }
 
-      go : (z : Res (ℕ × List Bytes)) → x ≡ z → step_of (budget - steps) z ≡ Step.Done cost n → Paid cost n
+      go : (z : Res (ℕ × List Bytes)) → x ≡ z → step_of (budget - steps) z ≡ given s → Paid s.cost s.held
       go (refused m) g e = let z : ◌≡◌ {A = ℕ} 0 1 = cc in absurd (omega arith)
       go (given y) g e = paid (leb y.0 (budget - steps)) y g refl e
 
@@ -195,7 +192,7 @@ elms_onto {e} {n} {entries} s at h f ready = ends (eqb n (length s)) refl
     ends false g = parted (eqb (byte_at s n) 59) refl (eqb-false _ _ g) ∙ ap (elm_onto (elm_of s e)) (sym (rest_more s n (eqb-false _ _ g)))
 
 -- the top entry answers
-pub top_answers : (budget steps : ℕ) (scratch : Bytes) (lens : List ℕ) (n : ℕ) → 1 ≤ n
+top_answers : (budget steps : ℕ) (scratch : Bytes) (lens : List ℕ) (n : ℕ) → 1 ≤ n
     → within_budget budget steps (top_entry (stack_of scratch lens n)) ≡ answered (entry_at scratch lens (n - 1)) steps
 unfolding within_budget top_entry stack_of
 top_answers budget steps scratch lens zero h = absurd (omega arith)
@@ -215,7 +212,7 @@ module _ (item code : Bytes) (first : ℕ) (position : Position) (meter : Meter)
   whole_run = elms_outcome item code first position meter scratch₀ lens₀
 
   pub record Turn (at entries steps : ℕ) (scratch : Bytes) (lens : List ℕ) (work : Bytes) : Type 0 where
-    pub lent : Lent item scratch lens work
+    pub lent : Lent item work
     pub within_code : at ≤ length code
     pub short : length code ≤ code_most
     pub element : entry_at scratch lens element_slot ≡ entry_at scratch₀ lens₀ element_slot
@@ -224,7 +221,7 @@ module _ (item code : Bytes) (first : ℕ) (position : Position) (meter : Meter)
     pub ready : Stacks (elms_from code at) entries
     pub same : whole_run ≡ within_budget budget steps (read_run there (elms_from code at) (stack_of scratch lens entries))
 
-  pub turn_first : {work : Bytes} → Lent item scratch₀ lens₀ work → first ≤ length code → Counted meter → Stacks (elms_from code first) 0
+  pub turn_first : {work : Bytes} → Lent item work → first ≤ length code → Counted meter → Stacks (elms_from code first) 0
       → length code ≤ code_most → Turn first 0 meter.steps scratch₀ lens₀ work
   unfolding stack_of
   turn_first lent h l ready short =
@@ -263,28 +260,33 @@ module _ (item code : Bytes) (first : ℕ) (position : Position) (meter : Meter)
           ∙ ap (λ (o : Option (List Elm)). within_budget budget steps (read_run there o (stack_of scratch lens entries))) onto
           ∙ ap (λ (r : Run (List Bytes)). within_budget budget steps r) (run_onto there (elm_of code e) (stack_of scratch lens entries) found.1)
 
-      module _ {r : Step} {scratch' : Bytes} {lens' : List ℕ} (settled : ElmCharges (budget - steps) item code e position entries r scratch lens scratch' lens') where
+      module _ {r : Result Step Refusal} {scratch' : Bytes} {lens' : List ℕ} (settled : ElmCharges (budget - steps) item code e position entries r scratch lens scratch' lens') where
         settled_there : Charges (budget - steps) this_step r scratch lens scratch' lens'
         settled_there = rw turn.element at settled
 
-        pub turn_stops : {m : ℕ} → r ≡ Step.Refused m → Stretches whole_run (Stretch.Stopped steps m) scratch' lens'
+        pub turn_stops : {m : Refusal} → r ≡ Err m → Stretches whole_run (Err (record { refusal = m; steps = steps })) scratch' lens'
         turn_stops {m} q =
-            stretch_stopped m steps settled.slotted
-            (by_step ∙ step_stops budget steps this_step those_after turn.counted m (sym settled_there.answers ∙ q))
+            stretch_stopped m steps
+            (by_step ∙ step_stops budget steps this_step those_after turn.counted (number_of m) (sym settled_there.answers ∙ ap told q))
 
-        module _ {cost entries' : ℕ} (q : r ≡ Step.Done cost entries') where
+        module _ {s : Step} (q : r ≡ Ok s) where
+          abbrev cost : ℕ
+          cost = s.cost
+
+          abbrev entries' : ℕ
+          entries' = s.held
+
           paid : Paid budget steps this_step those_after turn.counted cost entries'
-          paid = step_goes budget steps this_step those_after turn.counted cost entries' (sym settled_there.answers ∙ q)
+          paid = step_goes budget steps this_step those_after turn.counted s (sym settled_there.answers ∙ ap told q)
 
           -- the slots hold the stack that the paper goes on from
           held_there : stack_of scratch' lens' entries' ≡ paid.after
-          unfolding held_after
           held_there =
-              ap (λ (x : Step). stack_of scratch' lens' (held_after x)) (sym q) ∙ settled_there.stack ∙ paid.stack_is
+              ap (λ (x : Result Step Refusal). stack_of scratch' lens' (held_after x)) (sym q) ∙ settled_there.stack ∙ paid.stack_is
 
-          deep : entries' ≡ entries - (shape (elm_of code e)).takes + (shape (elm_of code e)).puts
-          deep =
-              let fits = steps_within entry_most there (elm_of code e) (stack_of scratch lens entries) (stack_fits turn.lent.slotted entries (omega (arith, turn.few))) in
+          deep : Slotted scratch lens → entries' ≡ entries - (shape (elm_of code e)).takes + (shape (elm_of code e)).puts
+          deep slotted =
+              let fits = steps_within entry_most there (elm_of code e) (stack_of scratch lens entries) (stack_fits slotted entries (omega (arith, turn.few))) in
               sym paid.long ∙ (held (rw paid.given_is at fits)).deep
               ∙ ap (λ (k : ℕ). k - (shape (elm_of code e)).takes + (shape (elm_of code e)).puts) (stack_length scratch lens entries)
 
@@ -294,20 +296,20 @@ module _ (item code : Bytes) (first : ℕ) (position : Position) (meter : Meter)
           pub turn_counted : steps + cost ≤ budget
           turn_counted = paid.counted
 
-          pub turn_held : (1 ≤ entries') × (entries' ≤ stack_most)
-          turn_held = omega (arith, deep, puts_one (elm_of code e), found.0.not_too_many)
+          pub turn_held : Slotted scratch lens → (1 ≤ entries') × (entries' ≤ stack_most)
+          turn_held slotted = omega (arith, deep slotted, puts_one (elm_of code e), found.0.not_too_many)
 
-          pub turn_more : {work' : Bytes} → length work' ≡ length work → (n ≡ length code → ⊥)
+          pub turn_more : {work' : Bytes} → Slotted scratch lens → length work' ≡ length work → (n ≡ length code → ⊥)
               → Turn (n + 1) entries' (steps + cost) scratch' lens' work'
-          turn_more w ne =
+          turn_more slotted w ne =
               record {
-                lent = record { record_fits = turn.lent.record_fits; slotted = settled.slotted; work_fits = omega (arith, turn.lent.work_fits) };
+                lent = record { record_fits = turn.lent.record_fits; work_fits = omega (arith, turn.lent.work_fits) };
                 within_code = omega (arith, turn_place);
                 short = turn.short;
                 element = settled.element ∙ turn.element;
-                few = turn_held.1;
+                few = (turn_held slotted).1;
                 counted = turn_counted;
-                ready = rw (deep, ← rest_more code n ne) found.1;
+                ready = rw (deep slotted, ← rest_more code n ne) found.1;
                 same = goes_on ∙ ap (λ (o : Option (List Elm)). within_budget budget (steps + cost) (read_run there o (stack_of scratch' lens' entries'))) (rest_more code n ne);
               }
 
@@ -317,66 +319,37 @@ module _ (item code : Bytes) (first : ℕ) (position : Position) (meter : Meter)
               goes_on
               ∙ ap (λ (o : Option (List Elm)). within_budget budget (steps + cost) (read_run there o (stack_of scratch' lens' entries'))) (rest_last code n h)
 
-          pub turn_last : n ≡ length code → Stretches whole_run (Stretch.Done entries' (steps + cost)) scratch' lens'
-          unfolding stretch_of
-          turn_last h =
+          pub turn_last : Slotted scratch lens → n ≡ length code → Stretches whole_run (Ok (record { held = entries'; steps = steps + cost })) scratch' lens'
+          turn_last slotted h =
               rw (ended h)
               (record {
                 answers = rw (stack_length scratch' lens' entries');
-                stack = rw (stack_length scratch' lens' entries') (refl, turn_held.0, turn_held.1);
-                slotted = settled.slotted;
+                stack = rw (stack_length scratch' lens' entries') (refl, (turn_held slotted).0, (turn_held slotted).1);
               })
 
--- what a stretch's answer says of its outcome
-stretch_stopped_is : {n m : ℕ} (o : Ending (List Bytes)) → stretch_of o ≡ Stretch.Stopped m n → o ≡ stopped n m
-unfolding stretch_of
-stretch_stopped_is {n} {m} o e = go o.answer refl
-  where
-    go : (x : Res (List Bytes)) → o.answer ≡ x → o ≡ stopped n m
-    go (given stack) f =
-        let q : Stretch.Done (length stack) o.steps ≡ Stretch.Stopped m n = rw f at e in
-        let z : ◌≡◌ {A = ℕ} 0 1 = cc in absurd (omega arith)
-    go (refused k) f =
-        let q : Stretch.Stopped o.steps k ≡ Stretch.Stopped m n = rw f at e in
-        let number : k ≡ n = cc in
-        let count : o.steps ≡ m = cc in
-        rw (← number, ← count, ← f)
-
-stretch_done_is : {scratch : Bytes} {lens : List ℕ} {r : Stretch} {n m : ℕ} (o : Ending (List Bytes)) → Stretches o r scratch lens → r ≡ Stretch.Done n m
-    → (o ≡ answered (stack_of scratch lens n) m) × (1 ≤ n) × (n ≤ stack_most)
-unfolding stretch_of
-stretch_done_is {scratch} {lens} {r} {n} {m} o left e = go o.answer refl left.stack (sym left.answers ∙ e)
-  where
-    go : (x : Res (List Bytes)) → o.answer ≡ x → Leaves o.answer scratch lens → stretch_of o ≡ Stretch.Done n m
-        → (o ≡ answered (stack_of scratch lens n) m) × (1 ≤ n) × (n ≤ stack_most)
-    go (given stack) f a g =
-        let q : Stretch.Done (length stack) o.steps ≡ Stretch.Done n m = rw f at g in
-        let deep : length stack ≡ n = cc in
-        let count : o.steps ≡ m = cc in
-        let held : Leaves (given stack) scratch lens = rw f at a in
-        let there : stack_of scratch lens n ≡ stack = rw (← deep) held.0 in
-        (rw (there, ← count, ← f), omega (arith, held.1), omega (arith, held.2))
-    go (refused k) f a g =
-        let q : Stretch.Stopped o.steps k ≡ Stretch.Done n m = rw f at g in
-        let z : ◌≡◌ {A = ℕ} 0 1 = cc in absurd (omega arith)
-
 -- The answer of an F code is taken from the stack that its elms leave.
-module _ {scratch : Bytes} {lens : List ℕ} {r : Stretch} (meter : Meter) (run : Run (List Bytes)) (left : Stretches (metered meter run) r scratch lens) where
-  pub function_stops : {n m : ℕ} {ran : Ran} → r ≡ Stretch.Stopped m n → ran ≡ stopped_as r → Runs (metered meter (onward run top_entry)) ran scratch lens
-  unfolding resumed stopped_as
-  function_stops {n} {m} e f =
-      rw (f, e)
-      (runs_stopped n m left.slotted
+module _ {scratch : Bytes} {lens : List ℕ} (meter : Meter) (run : Run (List Bytes)) where
+  pub function_stops : {s : Stopped} → Stretches (metered meter run) (Err s) scratch lens → Runs (metered meter (onward run top_entry)) (Err s) scratch lens
+  unfolding resumed
+  function_stops {s} left =
+      runs_stopped s.refusal s.steps
       (budget_onward run top_entry meter.budget meter.steps
-      ∙ ap (resumed meter.budget top_entry) (stretch_stopped_is (metered meter run) (sym left.answers ∙ e))))
+      ∙ ap (resumed meter.budget top_entry) (stopped_as length (metered meter run) left.answers))
 
-  module _ {n m : ℕ} (e : r ≡ Stretch.Done n m) where
-    pub function_held : (1 ≤ n) × (n ≤ stack_most)
-    function_held = let done = stretch_done_is (metered meter run) left e in (done.1, done.2)
+  module _ {s : Stretch} (left : Stretches (metered meter run) (Ok s) scratch lens) where
+    stands : (metered meter run ≡ answered (stack_of scratch lens s.held) s.steps) × (1 ≤ s.held) × (s.held ≤ stack_most)
+    stands =
+        let whole = answered_as length (metered meter run) left.answers in
+        let leaves : Leaves (given whole.0) scratch lens = rw whole.1 at left.stack in
+        let there : whole.0 ≡ stack_of scratch lens s.held = sym (rw whole.2 at leaves.0) in
+        (rw (← there) whole.1, omega (arith, leaves.1, whole.2), omega (arith, leaves.2, whole.2))
 
-    pub function_answers : metered meter (onward run top_entry) ≡ answered (entry_at scratch lens (n - 1)) m
+    pub function_held : (1 ≤ s.held) × (s.held ≤ stack_most)
+    function_held = (stands.1, stands.2)
+
+    pub function_answers : metered meter (onward run top_entry) ≡ answered (entry_at scratch lens (s.held - 1)) s.steps
     unfolding resumed
     function_answers =
         budget_onward run top_entry meter.budget meter.steps
-        ∙ ap (resumed meter.budget top_entry) (stretch_done_is (metered meter run) left e).0
-        ∙ top_answers meter.budget m scratch lens n function_held.0
+        ∙ ap (resumed meter.budget top_entry) stands.0
+        ∙ top_answers meter.budget s.steps scratch lens s.held function_held.0

@@ -1,4 +1,5 @@
 -- What the readers of the grammar keep an elm's numbers within: digits, a mask's width, a literal's place in its code. Assumes nothing.
+use Rattle.std.specs.Prelude.{Option as Maybe}
 use mathlib.Core.Path.{refl}
 use Prim.Native.Nat.{ℕ, ◌≤◌}
 use lib.ListN.{length}
@@ -34,8 +35,8 @@ ruleset elms_within = (
   duplicate_within,
 )
 
-narrow : {f : Fill} → Narrow f → field_width (fill_of f) ≤ 99
-unfolding field_width fill_of
+narrow : {f : Maybe Fill} → Narrow f → field_width (fill_of f) ≤ 99
+unfolding field_width
 narrow no_field = lit≤ tt
 narrow (field h) = h
 
@@ -51,16 +52,13 @@ module _ (s : Bytes) (short : length s ≤ code_most) where
   conversion_reads n = reads_as (λ c. kept_within) (conversion_kept s n)
 
   literal_reads : (q : ℕ) → Ever (ElmWithin s) s (elms.literal_elm q)
-  unfolding elms.literal_elm
   literal_reads q n = follow_then _ (quoted_inside q s n) (λ len h k. reads (push_within (literal_within h)))
 
   -- the elms of one byte
   single_reads : Ever (ElmWithin s) s elms.single_elm
-  unfolding elms.single_elm
   single_reads = choose_reads _ (search (elms_within, gives_reads, and_all, none_of) depth 40) (λ n. reads_not)
 
   longer_reads : Ever (ElmWithin s) s elms.longer_elm
-  unfolding elms.longer_elm elms.previous_elm elms.multiply_elm elms.bracket_elm elms.converting_elm
   longer_reads =
       choose_reads _
       (and_all (literal_reads 39)
@@ -73,5 +71,5 @@ module _ (s : Bytes) (short : length s ≤ code_most) where
 
   -- what an elm's reader reads
   pub elm_reads : Ever (ElmWithin s) s elms.elm
-  unfolding elms.elm elms.attribute_elm
+  unfolding elms.elm
   elm_reads n = or_any (numeral 2 s n) _ _ (λ d k. follow_any (elms.repeats s k) _ (λ r j. reads (push_within attribute_within))) (longer_reads n)

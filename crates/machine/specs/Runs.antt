@@ -1,9 +1,10 @@
--- A run of several steps, as the code answers it: the paper's numbers for each case, and what the element's slot holds then.
-use Rattle.std.specs.Prelude.{ℕ, ◌+◌, ◌≤◌, ◌≡◌, List, [], length}
+-- A run of several steps, as the code answers it: the paper's ending of it, and what the element's slot holds then.
+use Rattle.std.specs.Prelude.{ℕ, ◌+◌, ◌≤◌, ◌≡◌, List, [], length, Result, Ok, Err}
 use Rattle.std.proofs.Math.Option.{Option, none, some}
 use Rattle.paper.specs.Bytes.{Bytes}
 use Rattle.paper.specs.Sizes.{entry_most, stack_most}
-use Rattle.paper.specs.Refusals.{Res, given, refused, not_in_grammar}
+use Rattle.paper.specs.Refusals.{Res, given, refused, ◌>>=◌, not_in_grammar}
+use Rattle.paper.specs.Answers.{number_of}
 use Rattle.paper.specs.Codes.{Elm, Code}
 use Rattle.paper.specs.Checking.{all_stacked, Checked, accepted, faulty}
 use Rattle.paper.specs.Steps.{Setting, Run, done, stop, step, onward, charged, top_entry, elms_run, code_run, codes_run}
@@ -12,12 +13,12 @@ use Rattle.codes.specs.declared.Conversion.{Conversion}
 use Rattle.codes.specs.Meaning.{conversion_of}
 use Rattle.codes.specs.Counting.{kind_of}
 use Rattle.grammar.specs.Heads.{elms_from}
-use Rattle.stack.specs.Slots.{entry_at, stack_of, element_slot, Slotted}
+use Rattle.stack.specs.Slots.{entry_at, stack_of, element_slot}
 use Rattle.stack.specs.Charging.{taken_one}
 use Rattle.steps.specs.Stepping.{converted_on, setting_of}
 use Rattle.steps.specs.declared.Position.{Position}
 use Rattle.machine.specs.declared.Meter.{Meter}
-use Rattle.machine.specs.declared.Ran.{Ran}
+use Rattle.machine.specs.declared.Stopped.{Stopped}
 use Rattle.machine.specs.declared.Stretch.{Stretch}
 
 -- a run under the budget, after the steps counted so far
@@ -35,47 +36,49 @@ answered a steps = record { answer = given a; steps = steps }
 abbrev pub stopped : {A : Type 0} → ℕ → ℕ → Ending A
 stopped n steps = record { answer = refused n; steps = steps }
 
--- a run of several steps: the steps then counted, or the refusal and the steps counted before it
-unfoldable pub ran_of : Outcome → Ran
-ran_of o = ran o.answer o.steps
-  where
-    ran : Res Bytes → ℕ → Ran
-    ran (given bs) steps = Ran.Done steps
-    ran (refused n) steps = Ran.Stopped steps n
+-- a Result of the code as an ending: what it holds and the steps then counted are read by f, a refusal is told by its number
+abbrev pub ending_by : {A B : Type 0} → (A → Ending B) → Result A Stopped → Ending B
+ending_by f (Ok a) = f a
+ending_by f (Err s) = stopped (number_of s.refusal) s.steps
+
+-- a run of several steps answers the steps then counted
+abbrev pub ran_in : Result ℕ Stopped → Ending (Unit {0})
+ran_in = ending_by (answered tt)
+
+-- an ending with its answer read by f
+abbrev pub answer_by : {A B : Type 0} → (A → B) → Ending A → Ending B
+answer_by f o = record { answer = o.answer >>= λ a. given (f a); steps = o.steps }
+
+-- the paper's ending of the run, the answer's bytes left out: they stand in the element's slot
+abbrev pub ended : Outcome → Ending (Unit {0})
+ended = answer_by (λ bs. tt)
 
 -- the element's slot after it: what the run answered; nothing is promised after a refusal
 abbrev pub Answers : Res Bytes → Bytes → Type 0
 Answers (given bs) held = held ≡ bs
 Answers (refused n) held = Unit {0}
 
--- What a run leaves: its answer, the answer's bytes in the element's slot, and each slot within its length.
-pub record Runs (o : Outcome) (r : Ran) (scratch : Bytes) (lens : List ℕ) : Type 0 where
-  pub answers : r ≡ ran_of o
+-- What a run leaves: its answer, and the answer's bytes in the element's slot.
+pub record Runs (o : Outcome) (r : Result ℕ Stopped) (scratch : Bytes) (lens : List ℕ) : Type 0 where
+  pub answers : ran_in r ≡ ended o
   pub element : Answers o.answer (entry_at scratch lens element_slot)
-  pub slotted : Slotted scratch lens
 
--- a stretch of elms: the entries then held and the steps then counted, or the refusal and the steps counted before it
-unfoldable pub stretch_of : Ending (List Bytes) → Stretch
-stretch_of o = stretch o.answer o.steps
-  where
-    stretch : Res (List Bytes) → ℕ → Stretch
-    stretch (given stack) steps = Stretch.Done (length stack) steps
-    stretch (refused n) steps = Stretch.Stopped steps n
+-- a stretch of elms answers the entries then held and the steps then counted
+abbrev pub stretch_in : Result Stretch Stopped → Ending ℕ
+stretch_in = ending_by (λ s. answered s.held s.steps)
+
+-- the paper's ending of it, the entries counted: they stand in the slots
+abbrev pub stretched : Ending (List Bytes) → Ending ℕ
+stretched = answer_by length
 
 -- the slots after it: a stack of one entry at least and at most 16; nothing is promised after a refusal
 abbrev pub Leaves : Res (List Bytes) → Bytes → List ℕ → Type 0
 Leaves (given stack) scratch lens = (stack_of scratch lens (length stack) ≡ stack) × (1 ≤ length stack) × (length stack ≤ stack_most)
 Leaves (refused n) scratch lens = Unit {0}
 
-pub record Stretches (o : Ending (List Bytes)) (r : Stretch) (scratch : Bytes) (lens : List ℕ) : Type 0 where
-  pub answers : r ≡ stretch_of o
+pub record Stretches (o : Ending (List Bytes)) (r : Result Stretch Stopped) (scratch : Bytes) (lens : List ℕ) : Type 0 where
+  pub answers : stretch_in r ≡ stretched o
   pub stack : Leaves o.answer scratch lens
-  pub slotted : Slotted scratch lens
-
--- its refusal, passed up
-unfoldable pub stopped_as : Stretch → Ran
-stopped_as (Stretch.Stopped steps n) = Ran.Stopped steps n
-stopped_as (Stretch.Done held steps) = Ran.Stopped steps 0
 
 -- the elms that stand in a code, run from a stack; a code that is not in the grammar has none
 unfoldable pub read_run : Setting → Option (List Elm) → List Bytes → Run (List Bytes)

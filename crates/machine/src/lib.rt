@@ -5,7 +5,8 @@
 
 pub mod running;
 
-use codes::Conversion;
+use paper::Refusal;
+use steps::Position;
 
 // The budget, and the steps counted so far.
 #[derive(Clone, Copy)]
@@ -14,23 +15,23 @@ pub struct Meter {
     pub steps: u64,
 }
 
-// A run of elms: the entries then held and the steps then counted, or the refusal and the steps counted before it.
+// Where an element's run stands: at the element's own position, with so many steps counted.
 #[derive(Clone, Copy)]
-pub(crate) enum Stretch {
-    Done { held: usize, steps: u64 },
-    Stopped { steps: u64, number: u64 },
+pub struct Standing {
+    pub place: Position,
+    pub meter: Meter,
 }
 
-// A run of several steps: the steps then counted, or the refusal and the steps counted before it.
+// Why a run of several steps stopped: the refusal, and the steps counted before it.
 #[derive(Clone, Copy)]
-pub enum Ran {
-    Done { steps: u64 },
-    Stopped { steps: u64, number: u64 },
+pub struct Stopped {
+    pub refusal: Refusal,
+    pub steps: u64,
 }
 
-// How the elements go through a string: by the one code that it is, other than F and read once, or by its codes in their turn.
+// What a run of elms comes to: the entries then held and the steps then counted.
 #[derive(Clone, Copy)]
-pub enum Plan {
-    Single(Conversion),
-    Codes,
+pub(crate) struct Stretch {
+    pub held: usize,
+    pub steps: u64,
 }

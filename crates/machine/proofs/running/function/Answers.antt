@@ -1,17 +1,17 @@
 -- `machine::running::function` meets its contract: the elms' refusal as it is, or the top of the stack that they leave.
-use Rattle.machine.proofs.Turns.{runs_as, function_stops, function_held, function_answers}
+use Rattle.std.proofs.lemmas.Result.{err_from_is_err_and}
+use native.Mathlib.Omega.{arith}
+use Rattle.stack.proofs.Putting.{entry_fits}
+use Rattle.machine.proofs.Turns.{runs_as, runs_answered, function_stops, function_held, function_answers}
 use Rattle.machine.proofs.running.function.Goals as goal
 
-pub run_elms-stretch-requires : goal.run_elms-stretch-requires
-run_elms-stretch-requires c = c.requires
-
-pub returns-in_default : goal.returns-in_default
-returns-in_default c = function_stops _ _ c.run_elms-stretch.ensures c.in_default.is c.stopped.ensures
-
-pub answer-requires : goal.answer-requires
-answer-requires c =
-    let held = function_held _ _ c.run_elms-stretch.ensures c.in-Done.is in
-    (c.run_elms-stretch.ensures.slotted, held.0, held.1)
+pub returns-in_err-stretch : goal.returns-in_err-stretch
+returns-in_err-stretch c =
+    let p = err_from_is_err_and c.from_residual.result c.from_residual.ensures.1 in
+    rw (p.1, p.2) (function_stops _ _ c.in_err-stretch.ensures)
 
 pub returns : goal.returns
-returns c = runs_as (function_answers _ _ c.run_elms-stretch.ensures c.in-Done.is) c.answer.ensures
+returns c =
+    let left = c.in_ok-stretch.ensures in
+    let held = function_held _ _ left in
+    runs_as (function_answers _ _ left) (runs_answered c.run_elms.new.slots.slotted _ _ (entry_fits c.run_elms.new.slots.slotted _ (omega (arith, held))) c.copy.ensures)

@@ -1,21 +1,16 @@
 -- `machine::running::plan` meets its contract: way by way.
 use mathlib.Core.Path.{ap, ◌∙◌}
 use mathlib.Core.Option.{some}
-use Rattle.readers.proofs.Answering.{read_is}
-use Rattle.grammar.proofs.Answering.{heads}
-use Rattle.machine.proofs.Plans.{plan_function, plan_alone, plan_parted, plan_bad}
+use Rattle.machine.proofs.Endings.{head_is, head_none}
+use Rattle.machine.proofs.Plans.{plan_function, plan_single, plan_bad}
 use Rattle.machine.proofs.running.plan.Goals as goal
 
-pub returns-in_default : goal.returns-in_default
-returns-in_default c = plan_bad _ (read_is heads c.head.ensures c.in_default.is)
+pub returns-in-Ok-Single : goal.returns-in-Ok-Single
+returns-in-Ok-Single c =
+    plan_single _ (head_is _ c.in-Ok-Single.ensures ∙ ap some c.in-Ok-Single.field-0-is) c.code_end.ensures c.then_some.ensures
 
-pub returns-in_default-head : goal.returns-in_default-head
-returns-in_default-head c = plan_function _ (read_is heads c.head.ensures c.in-Head.is ∙ ap some c.in_default-head.is)
+pub returns-in-Ok-Function : goal.returns-in-Ok-Function
+returns-in-Ok-Function c = plan_function _ (head_is _ c.in-Ok-Function.ensures ∙ ap some c.in-Ok-Function.field-0-is)
 
-pub returns-then-code_end-string : goal.returns-then-code_end-string
-returns-then-code_end-string c =
-    plan_alone _ (read_is heads c.head.ensures c.in-Head.is ∙ ap some c.in-Single.is) c.code_end.ensures c.if-code_end-string.true
-
-pub returns-else-code_end-string : goal.returns-else-code_end-string
-returns-else-code_end-string c =
-    plan_parted _ (read_is heads c.head.ensures c.in-Head.is ∙ ap some c.in-Single.is) c.code_end.ensures c.if-code_end-string.false
+pub returns-in-Err : goal.returns-in-Err
+returns-in-Err c = plan_bad _ (head_none _ c.in-Err.ensures)

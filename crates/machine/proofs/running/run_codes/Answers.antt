@@ -7,16 +7,16 @@ use Rattle.machine.proofs.Parts.{no_codes, checked_short, checked_parts}
 use Rattle.machine.proofs.running.run_codes.Goals as goal
 
 pub returns-then-string-eq0 : goal.returns-then-string-eq0
-returns-then-string-eq0 c = no_codes _ _ _ _ c.requires.0.slotted c.if-string-eq0.true
+returns-then-string-eq0 c = no_codes _ _ _ _ c.if-string-eq0.true
 
-pub run_planned-requires : goal.run_planned-requires
-run_planned-requires c =
-    record { lent = (c.requires.0, c.requires.1, c.requires.3); accepted = (rw (checked_parts c.args.string.now c.requires.2 c.if-string-eq0.false) at c.requires.2, checked_short _ c.requires.2) }
+pub run_planned-requires-clause-accepted : goal.run_planned-requires-clause-accepted
+run_planned-requires-clause-accepted c =
+    (rw (checked_parts c.args.string.now c.requires.2 c.if-string-eq0.false) at c.requires.2, checked_short _ c.requires.2)
 
 pub returns : goal.returns
 returns c =
     let a = c.args in
     runs_as
-    (ap (λ (x : Checked). codes_outcome a.item.now x a.place a.meter a.scratch.now a.lens.now)
+    (ap (λ (x : Checked). codes_outcome a.item.now x a.here.place a.here.meter a.slots.now.scratch.now a.slots.now.lens)
     (checked_parts a.string.now c.requires.2 c.if-string-eq0.false))
     c.run_planned.ensures

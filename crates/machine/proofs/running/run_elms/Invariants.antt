@@ -4,12 +4,10 @@ use lib.ListN.{length}
 use Rattle.machine.proofs.Turns.{Turn}
 use Rattle.machine.proofs.running.run_elms.Given as goal
 
-abbrev pub invariant-loop-elm : goal.invariant-loop-elm
-invariant-loop-elm l =
-    Turn l.item l.code l.first l.place l.meter l.initial.scratch l.initial.lens l.at l.held l.steps l.scratch l.lens l.work
-    × (length l.scratch ≡ length l.initial.scratch)
-    × (length l.lens ≡ length l.initial.lens)
+abbrev pub invariant-loop-taken : goal.invariant-loop-taken
+invariant-loop-taken l =
+    Turn l.item l.code l.first l.here.place l.here.meter l.initial.slots.scratch.now l.initial.slots.lens l.at l.held l.steps l.slots.scratch.now l.slots.lens l.work
     × (length l.work ≡ length l.initial.work)
 
-abbrev pub decreases-loop-elm : goal.decreases-loop-elm
-decreases-loop-elm l = length l.code - l.at
+abbrev pub decreases-loop-taken : goal.decreases-loop-taken
+decreases-loop-taken l = length l.code - l.at

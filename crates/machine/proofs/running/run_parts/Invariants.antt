@@ -6,9 +6,7 @@ use Rattle.machine.proofs.running.run_parts.Given as goal
 
 abbrev pub invariant-loop-counted : goal.invariant-loop-counted
 invariant-loop-counted l =
-    Part l.item l.string l.place l.meter l.initial.scratch l.initial.lens l.at l.steps l.scratch l.lens l.work
-    × (length l.scratch ≡ length l.initial.scratch)
-    × (length l.lens ≡ length l.initial.lens)
+    Part l.item l.string l.here.place l.here.meter l.initial.slots.scratch.now l.initial.slots.lens l.at l.steps l.slots.scratch.now l.slots.lens l.work
     × (length l.work ≡ length l.initial.work)
 
 abbrev pub decreases-loop-counted : goal.decreases-loop-counted

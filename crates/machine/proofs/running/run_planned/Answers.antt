@@ -9,18 +9,14 @@ use Rattle.machine.proofs.running.run_planned.Goals as goal
 
 pub single-requires : goal.single-requires
 single-requires c = (
-  c.requires.lent.0.slotted,
   c.requires.lent.0.work_fits,
   c.requires.lent.1,
-  plan_within c.args.string.now c.requires.accepted.0 c.requires.accepted.1 (sym c.in-Single.is ∙ c.requires.lent.2),
+  plan_within c.args.string.now c.requires.accepted.0 c.requires.accepted.1 (sym c.in-Some.is ∙ c.requires.lent.2),
 )
 
-pub run_parts-requires : goal.run_parts-requires
-run_parts-requires c = (c.requires.lent.0, c.requires.lent.1, c.requires.accepted.0, c.requires.accepted.1)
-
-pub returns-in-Single : goal.returns-in-Single
-returns-in-Single c =
+pub returns-in-Some : goal.returns-in-Some
+returns-in-Some c =
     runs_as
-    (ap (λ (r : Run Bytes). metered c.args.meter r)
-    (plan_run c.args.string.now c.requires.accepted.0 c.requires.accepted.1 (sym c.in-Single.is ∙ c.requires.lent.2) _ _ _))
+    (ap (λ (r : Run Bytes). metered c.args.here.meter r)
+    (plan_run c.args.string.now c.requires.accepted.0 c.requires.accepted.1 (sym c.in-Some.is ∙ c.requires.lent.2) _ _ _))
     c.single.ensures
