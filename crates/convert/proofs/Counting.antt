@@ -1,5 +1,7 @@
 -- How many elements an address holds: one more than the marks among the bytes that it reads. And the ceiling of so many. Assumes nothing.
-use Rattle.std.specs.Prelude.{if◌then◌else◌}
+use Rattle.std.specs.Prelude.{if◌then◌else◌, cond}
+use Rattle.std.specs.List.{count_by}
+use Rattle.std.proofs.lemmas.List.Recursion.{is_count_by}
 use Prim.Native.Nat.{ℕ, suc, ◌+◌, ◌*◌, ◌≤◌, ◌<◌}
 use mathlib.Core.Path.{◌≡◌, refl, sym, ap, ◌∙◌}
 use mathlib.Core.Bool.{Bool, true, false}
@@ -14,39 +16,28 @@ use Rattle.paper.specs.Bytes.{Bytes}
 use Rattle.paper.specs.Sizes.{scratch_least, value_mark, subvalue_mark, is_inner_mark}
 use Rattle.paper.specs.Refusals.{Res, given, refused, ◌>>=◌, ◌>>◌, refuse◌unless◌, refusal_of, short_scratch}
 use Rattle.paper.specs.Records.{path, reads}
-use Rattle.paper.specs.Codes.{Code}
 use Rattle.paper.specs.Checking.{Checked, accepted, faulty, check, codes_of, checked_codes, codes_counts}
 use Rattle.paper.specs.Converting.{Element, elements, lawful_place, lawful_code, ready, convert, ceiling, counted_ceiling}
 use Rattle.paper.proofs.Ceiling.{steps_within_ceiling, ceiling_counted}
-use Rattle.judging.specs.Verdicts.{verdict_of}
-use Rattle.judging.specs.Tallies.{counts_in, counts_of, steps}
-use Rattle.judging.specs.declared.Verdict.{Verdict}
+use Rattle.judging.specs.Tallies.{counts_of, steps}
 use Rattle.judging.specs.declared.Counts.{Counts}
 use Rattle.judging.proofs.Walking.{accepted_steps}
 use Rattle.records.specs.Found.{lawful_find}
 use Rattle.convert.specs.Marks.{inner_marks}
 use Rattle.elements.specs.Walk.{in_front, walked}
-use Rattle.convert.specs.Finishing.{refused_at_once}
-use Rattle.convert.specs.Ceiling.{Figures, ceiling_of, ceiling_told}
-use Rattle.convert.specs.declared.Bound.{Bound}
+use Rattle.elements.specs.Running.{codes_in}
+use Rattle.convert.specs.Ceiling.{Figures, ceiling_of, counted_of}
 use Rattle.elements.proofs.Walking.{elements_walked}
-use Rattle.convert.proofs.Stages.{refused_ready, lawful_numbers, reads_short}
+use Rattle.paper.proofs.Refusing.{never_given}
+use Rattle.convert.proofs.Stages.{counts_or, Counted, counted, refused_at_once, refused_convert, lawful_numbers, reads_short}
 
--- one byte more of the bytes passed
-module _ (text : Bytes) (n i : ℕ) (e : inner_marks text ≡ n + inner_marks (drop i text)) where
-  marks_here : i < length text → inner_marks text ≡ n + ((if is_inner_mark (get_or text i 0) then 1 else 0) + inner_marks (drop (i + 1) text))
-  unfolding inner_marks
-  marks_here h = e ∙ ap (λ (l : Bytes). n + inner_marks l) (drop-cons text i 0 h ∙ ap (λ (k : ℕ). get_or text i 0 ∷ drop k text) (sym (add-one i)))
-
-  pub marks_hit : i < length text → is_inner_mark (get_or text i 0) ≡ true → inner_marks text ≡ n + 1 + inner_marks (drop (i + 1) text)
-  marks_hit h t = let all = rw t at (marks_here h) in omega arith
-
-  pub marks_miss : i < length text → is_inner_mark (get_or text i 0) ≡ false → inner_marks text ≡ n + inner_marks (drop (i + 1) text)
-  marks_miss h t = let all = rw t at (marks_here h) in omega arith
-
-  pub marks_all : length text ≤ i → n ≡ inner_marks text
-  unfolding inner_marks
-  marks_all h = let all = e ∙ ap (λ (l : Bytes). n + inner_marks l) (drop_of_length-le text h) in omega arith
+pub marks_counted : (bs : Bytes) → inner_marks bs ≡ count_by is_inner_mark bs
+unfolding inner_marks
+marks_counted = is_count_by inner_marks is_inner_mark refl (λ b bs. go (is_inner_mark b) (inner_marks bs))
+  where
+    go : (t : Bool) (n : ℕ) → (if t then 1 else 0) + n ≡ cond t (1 + n) n
+    go true n = refl
+    go false n = omega arith
 
 in_front_length : (b : ℕ) (es : List Element) → length (in_front b es) ≡ length es
 in_front_length b [] = refl
@@ -93,52 +84,42 @@ module _ {m size : ℕ} (k : Counts) (figures : Figures m (steps k) size) where
   pub ceiling_fits : m * (k.loads * (1_025 + size) + k.others * 4_097 + (k.tests * 1_025 + k.patterns * 1_025)) ≤ 32_769 * all_fit
   ceiling_fits = mul-le-mul {n₂ = 32_769} {m₂ = all_fit} (omega (arith, figures.elements)) (omega (arith, loads_fit, counted_fit))
 
-module _ (item string : Bytes) (a v s : ℕ) where
-  -- refused before the run
-  pub place_uncapped : (n : ℕ) → lawful_find item a v s ≡ refused n → Bound.Refused n ≡ ceiling_told (ceiling_of item string a v s)
-  unfolding lawful_find lawful_place ceiling_of ceiling_told
-  place_uncapped n e = rw e
+-- refused before the run
+pub uncapped : (item string : Bytes) (a v s : ℕ) {n : ℕ} → refused n ≡ counted_of item string a v s → refused n ≡ ceiling_of item string a v s
+unfolding counted_of ceiling_of checked_codes
+uncapped item string a v s {n} e = go (lawful_place item a v s) (check string) e
+  where
+    go : (p : Res (Unit {0})) (c : Checked) → refused n ≡ p >> counts_or c
+        → refused n ≡ p >> (checked_codes c >>= λ cs. given (ceiling (length item) cs (length (elements item a v s))))
+    go (given u) (accepted cs) e = never_given e
+    go (given u) (faulty k l) e = ap (λ (x : Res Counts). refused (refusal_of x)) e
+    go (refused k) c e = ap (λ (x : Res Counts). refused (refusal_of x)) e
 
-  module _ (lawful : lawful_find item a v s ≡ given tt) where
-    pub code_uncapped : (n k : ℕ) → check string ≡ faulty n k → Bound.Refused n ≡ ceiling_told (ceiling_of item string a v s)
-    unfolding lawful_find lawful_place ceiling_of ceiling_told checked_codes
-    code_uncapped n k e = rw (lawful, e)
+-- accepted: A, B, P and T are what the string counts, and m is one more than the marks
+module _ (item string : Bytes) (a v s : ℕ) {counts : Counts} (granted : given counts ≡ counted_of item string a v s) {n : ℕ} {text : Bytes}
+    (read : text ≡ reads item (path a v s)) (marked : n ≡ inner_marks text) where
+  facts : Counted item string a v s counts
+  facts = counted item string a v s granted
 
-    -- accepted: A, B, P and T are the verdict's, and m is one more than the marks
-    module _ {counts : Counts} {n : ℕ} {verdict : Verdict} {text : Bytes} (accepts : verdict ≡ Verdict.Accepted counts)
-        (checked : verdict ≡ verdict_of (check string)) (read : text ≡ reads item (path a v s)) (counted : n ≡ inner_marks text) where
-      codes : (c : Checked) → check string ≡ c → (cs : List Code) × (check string ≡ accepted cs) × (counts_in (codes_counts cs) ≡ counts)
-      unfolding verdict_of
-      codes (accepted cs) e =
-          let same : Verdict.Accepted (counts_in (codes_counts cs)) ≡ Verdict.Accepted counts = sym (ap verdict_of e) ∙ sym checked ∙ accepts in
-          let told : counts_in (codes_counts cs) ≡ counts = cc in
-          (cs, e, told)
-      codes (faulty k l) e =
-          let not_so : Verdict.Refused k l ≡ Verdict.Accepted counts = sym (ap verdict_of e) ∙ sym checked ∙ accepts in
-          let z : ◌≡◌ {A = ℕ} 0 1 = cc in
-          absurd (omega arith)
+  pub figures : Figures (1 + n) (steps counts) (length item)
+  figures =
+      let numbers = lawful_numbers item a v s facts.lawful in
+      record {
+        elements = rw (marked, read) (omega (arith, marks_few (reads item (path a v s)), reads_short item (path a v s), numbers.record_fits));
+        steps = omega (arith, accepted_steps string (codes_in string) facts.accepts, ap steps facts.as_counted);
+        record_fits = numbers.record_fits;
+      }
 
-      pub figures : Figures (1 + n) (steps counts) (length item)
-      figures =
-          let (cs, e, f) = codes (check string) refl in
-          let numbers = lawful_numbers item a v s lawful in
-          record {
-            elements = rw (counted, read) (omega (arith, marks_few (reads item (path a v s)), reads_short item (path a v s), numbers.record_fits));
-            steps = omega (arith, accepted_steps string cs e, ap steps f);
-            record_fits = numbers.record_fits;
-          }
+  elements_counted : length (elements item a v s) ≡ 1 + n
+  elements_counted =
+      ap length (elements_walked item a v s (lawful_numbers item a v s facts.lawful).whole) ∙ walked_length _ _ _ _
+      ∙ ap (λ (x : ℕ). 1 + x) (sym (marked ∙ ap inner_marks read))
 
-      elements_counted : length (elements item a v s) ≡ 1 + n
-      elements_counted =
-          ap length (elements_walked item a v s (lawful_numbers item a v s lawful).whole) ∙ walked_length _ _ _ _
-          ∙ ap (λ (x : ℕ). 1 + x) (sym (counted ∙ ap inner_marks read))
-
-      pub capped : {most : ℕ} → most ≡ counted_ceiling (counts_of counts) (length item) (1 + n) → Bound.Most most ≡ ceiling_told (ceiling_of item string a v s)
-      unfolding lawful_find lawful_place ceiling_of ceiling_told checked_codes
-      capped h =
-          let (cs, e, f) = codes (check string) refl in
-          let same : codes_counts cs ≡ counts_of counts = ap counts_of f in
-          rw (lawful, e, ceiling_counted, same, elements_counted) (ap Bound.Most h)
+  pub capped : {most : ℕ} → most ≡ counted_ceiling (counts_of counts) (length item) (1 + n) → given most ≡ ceiling_of item string a v s
+  unfolding lawful_find lawful_place ceiling_of checked_codes
+  capped h =
+      let same : codes_counts (codes_in string) ≡ counts_of counts = ap counts_of facts.as_counted in
+      rw (facts.lawful, facts.accepts, ceiling_counted, same, elements_counted) (ap given h)
 
 -- the ceiling beside the conversion itself
 module _ (item string : Bytes) (a v s budget room scratch : ℕ) where
@@ -156,7 +137,7 @@ module _ (item string : Bytes) (a v s budget room scratch : ℕ) where
   -- where it is refused, so is the conversion, before its run
   pub refused_alike : (n : ℕ) → ceiling_of item string a v s ≡ refused n → convert item string a v s budget room scratch ≡ refused_at_once n
   unfolding ceiling_of ready lawful_code checked_codes
-  refused_alike n e = refused_ready item string a v s budget room scratch n (go (lawful_place item a v s) (check string) e)
+  refused_alike n e = refused_convert item string a v s scratch budget room (sym (go (lawful_place item a v s) (check string) e))
     where
       go : (p : Res (Unit {0})) (c : Checked)
           → (p >> (checked_codes c >>= λ cs. given (ceiling (length item) cs (length (elements item a v s))))) ≡ refused n

@@ -3,163 +3,139 @@
 // `ceiling` works out beforehand the most steps that a conversion can take.
 #![tactic(auto)]
 
-ghost use Rattle.std.specs.Prelude.{◌≡◌, ◌≤◌, length};
-ghost use Rattle.paper.specs.Sizes.{scratch_least};
+ghost use Rattle.std.specs.Prelude.{◌≡◌, length};
 ghost use Rattle.paper.specs.Refusals.{given};
-ghost use Rattle.paper.specs.Converting.{from_one, within_budget, run, output_after, scratch_after, counted_ceiling};
-ghost use Rattle.records.specs.Found.{lawful_find};
+ghost use Rattle.paper.specs.Answers.{told, told_by, sized};
+ghost use Rattle.paper.specs.Converting.{from_one, within_budget, ready, run, output_after, scratch_after, counted_ceiling};
 ghost use Rattle.judging.specs.Tallies.{counts_of, steps};
-ghost use Rattle.judging.specs.Verdicts.{report_in};
-ghost use Rattle.elements.specs.Running.{codes_in, Accepts, Walks};
+ghost use Rattle.elements.specs.Gather.{walked_in};
+ghost use Rattle.elements.specs.Running.{codes_in, Walks};
 ghost use Rattle.convert.specs.Marks.{inner_marks};
-ghost use Rattle.convert.specs.Ceiling.{Figures, ceiling_of, ceiling_told};
-ghost use Rattle.convert.specs.Finishing.{unanswered_as, finished_as, finished_out, converted_of, converted_into, refused_at_once};
+ghost use Rattle.convert.specs.Ceiling.{Figures, ceiling_of, counted_of};
+ghost use Rattle.convert.specs.Finishing.{converted_in, fitted_in, finished_out, converted_into};
 
 use elements::Walked;
-use judging::{Counts, Verdict};
-use paper::{Limit, Mark, refusal};
-use stack::slots;
+use judging::Counts;
+use machine::Stopped;
+use paper::{Address, Limit, Mark, Refusal};
+use stack::slots::Slots;
 use steps::Position;
 
-// What converting comes to: the refusal or 0, the steps reported, the answer's length.
+// What converting comes to: the steps reported, and the answer's length or the refusal.
 #[derive(Clone, Copy)]
 pub struct Converted {
-    pub number: u64,
     pub steps: u64,
-    pub length: usize,
+    pub answer: Result<usize, Refusal>,
 }
 
-// A walk with no answer in the output: the refusal that stopped it, or 16 of an answer that the output is too short for.
-fn unanswered(walked: Walked) -> Converted
-    ensures { result ≡ unanswered_as walked }
+// What a walk comes to in an output of so many bytes: "then 16".
+fn fitted(walked: Result<Walked, Stopped>, room: usize) -> Converted
+    ensures { converted_in result ≡ fitted_in room (walked_in walked) }
 {
     match walked {
-        Walked::Done { steps, length: _ } => Converted {
-            number: refusal::SHORT_OUTPUT,
+        Ok(Walked { steps, length }) => Converted {
             steps,
-            length: 0,
+            answer: if room < length {
+                Err(Refusal::ShortOutput)
+            } else {
+                Ok(length)
+            },
         },
-        Walked::Stopped { number, steps } => Converted {
-            number,
+        Err(Stopped { refusal, steps }) => Converted {
             steps,
-            length: 0,
+            answer: Err(refusal),
         },
     }
 }
 
 // "that buffer holds the answer and then zeros to its end; on a refusal it is zeros throughout", and so is the scratch after every call.
-fn finish(walked: Walked, out: &mut [u8], scratch: &mut [u8]) -> Converted
-    ensures value { result ≡ finished_as (length out.old) walked }
-    ensures out_after { out.new ≡ finished_out out.old walked }
+fn finish(walked: Result<Walked, Stopped>, out: &mut [u8], scratch: &mut [u8]) -> Converted
+    ensures value { converted_in result ≡ fitted_in (length out.old) (walked_in walked) }
+    ensures out_after { out.new ≡ finished_out out.old (fitted_in (length out.old) (walked_in walked)).answer }
     ensures scratch_after { scratch.new ≡ scratch_after (length scratch.old) }
 {
     lent::clear(scratch);
-    let Walked::Done { steps, length } = walked else {
-        lent::clear(out);
-        return unanswered(walked);
-    };
-    if out.len() < length {
-        lent::clear(out);
-        return unanswered(walked);
-    }
+    let converted = fitted(walked, out.len());
+    let length = converted.answer.unwrap_or(0);
     let rest = out.len() - length;
     lent::fill(out, length, rest, 0);
-    Converted {
-        number: 0,
-        steps,
-        length,
-    }
+    converted
 }
 
 // "for the id, and a place named only in part, counting starts at 1"
+#[tactic(auto, using(crate::proofs::Stages::from_one_max))]
 fn from_one(n: u64) -> u64
     ensures { result ≡ from_one n }
 {
-    if n == 0 { 1 } else { n }
+    n.max(1)
 }
 
-// The run of a lawful address and an accepted string: the lengths of the slots and a work buffer are the only locals.
+// The run behind the tests before it: the slots and a work buffer are the only locals.
 fn run<'a>(
     item: &'a [u8],
     code: &'a [u8],
-    a: u64,
-    v: u64,
-    s: u64,
+    at: Address,
     budget: u64,
     out: &mut [u8],
     scratch: &mut [u8],
-) -> Walked
-    requires { (lawful_find item.now a v s ≡ given tt) × Accepts code.now × (scratch_least ≤ length scratch.old) }
-    ensures { Walks (within_budget budget 0 (run item.now a v s (codes_in code.now)))
+) -> Result<Walked, Stopped>
+    requires { given (codes_in code.now) ≡ ready item.now code.now at.a at.v at.s (length scratch.old) }
+    ensures { Walks (within_budget budget 0 (run item.now at.a at.v at.s (codes_in code.now)))
         result out.old out.new }
 {
-    let mut lens = [0usize; slots::SLOTS];
+    let mut slots = Slots::over(scratch);
     let mut work = [0u8; Limit::ENTRY.most];
-    let text = records::part(item, a, v, s);
+    let text = records::part(item, at);
     let first = Position {
-        v: from_one(v),
-        s: from_one(s),
+        v: from_one(at.v),
+        s: from_one(at.s),
     };
-    elements::walk(
-        item, code, text, first, budget, out, scratch, &mut lens, &mut work,
-    )
+    elements::walk(item, code, text, first, budget, out, &mut slots, &mut work)
 }
 
-// A refusal before the run: no steps, and zeros throughout both buffers.
-fn refuse(number: u64, out: &mut [u8], scratch: &mut [u8]) -> Converted
-    ensures value { result ≡ converted_of (refused_at_once number) }
-    ensures out_after { out.new ≡ output_after (length out.old) (refused_at_once number) }
-    ensures scratch_after { scratch.new ≡ scratch_after (length scratch.old) }
+// What an accepted string counts, behind the refusals 1 to 7 and 18, "1, 2, 3, 4, 5, 6 or 7".
+#[tactic(auto, using(crate::proofs::Stages::place_refused, crate::proofs::Stages::code_counted, crate::proofs::Stages::code_refused))]
+fn counted(item: &[u8], code: &[u8], at: Address) -> Result<Counts, Refusal>
+    ensures { told result ≡ counted_of item.now code.now at.a at.v at.s }
 {
-    finish(Walked::Stopped { number, steps: 0 }, out, scratch)
+    records::lawful_find(item, at)?;
+    judging::check(code).map_err(|bad| bad.refusal)
 }
 
-// The refusal that a verdict carries; 0 for none.
-fn refusal_in(verdict: Verdict) -> u64
-    ensures { result ≡ (report_in verdict).refusal }
+// What converting refuses before its run, "1, 2, 3, 4, 5, 6 or 7, 8", and 18 where 6 and 7 stand.
+#[tactic(auto, using(crate::proofs::Stages::refused_before, crate::proofs::Stages::refused_short))]
+fn ready(item: &[u8], code: &[u8], at: Address, scratch: usize) -> Result<(), Refusal>
+    ensures { told_by (λ u. codes_in code.now) result ≡ ready item.now code.now at.a at.v at.s scratch }
 {
-    match verdict {
-        Verdict::Accepted(_) => 0,
-        Verdict::Refused { number, code: _ } => number,
+    counted(item, code, at)?;
+    if scratch < Limit::SCRATCH.most {
+        return Err(Refusal::ShortScratch);
     }
+    Ok(())
 }
 
-// "Converting: 1, 2, 3, 4, 5, 6 or 7, 8, then the run, then 16.", and 18 where 6 and 7 stand
+// "Converting: 1, 2, 3, 4, 5, 6 or 7, 8, then the run, then 16.", and 18 where 6 and 7 stand; steps are "0 when the run never began".
 pub fn convert<'a>(
     item: &'a [u8],
     code: &'a [u8],
-    a: u64,
-    v: u64,
-    s: u64,
+    at: Address,
     budget: u64,
     out: &mut [u8],
     scratch: &mut [u8],
 ) -> Converted
-    ensures value { result ≡ converted_of (converted_into item.now code.now a v s budget out.old scratch.old) }
+    ensures answer { told result.answer ≡ sized (converted_into item.now code.now at.a at.v at.s budget out.old scratch.old).answer }
+    ensures steps { result.steps ≡ (converted_into item.now code.now at.a at.v at.s budget out.old scratch.old).steps }
     ensures out_after { out.new ≡ output_after (length out.old)
-        (converted_into item.now code.now a v s budget out.old scratch.old) }
+        (converted_into item.now code.now at.a at.v at.s budget out.old scratch.old) }
     ensures scratch_after { scratch.new ≡ scratch_after (length scratch.old) }
 {
-    let refused = records::lawful_find(item, a, v, s);
-    if refused != 0 {
-        return refuse(refused, out, scratch);
+    match ready(item, code, at, scratch.len()) {
+        Ok(()) => {
+            let walked = run(item, code, at, budget, out, scratch);
+            finish(walked, out, scratch)
+        }
+        Err(refusal) => finish(Err(Stopped { refusal, steps: 0 }), out, scratch),
     }
-    let verdict = judging::check(code);
-    let Verdict::Accepted(_) = verdict else {
-        return refuse(refusal_in(verdict), out, scratch);
-    };
-    if scratch.len() < Limit::SCRATCH.most {
-        return refuse(refusal::SHORT_SCRATCH, out, scratch);
-    }
-    let walked = run(item, code, a, v, s, budget, out, scratch);
-    finish(walked, out, scratch)
-}
-
-// What the ceiling of a conversion comes to: the most steps that it can take, or the refusal before the run.
-#[derive(Clone, Copy)]
-pub enum Bound {
-    Most(u64),
-    Refused(u64),
 }
 
 // "1,025" and "4,097": what an attribute load costs at most beside the record's length, and so a test of a P code, and the code beside its tests;
@@ -168,20 +144,14 @@ const ENTRY_MOST: u64 = 1 + Limit::ENTRY.most as u64;
 
 const OTHER_MOST: u64 = 1 + 4 * Limit::ENTRY.most as u64;
 
-// How many of the bytes part elements: 252 or 253. No early exit, so that it is compiled to SIMD.
+// How many of the bytes part elements: 252 or 253.
 fn inner_marks(text: &[u8]) -> u64
     ensures { result ≡ inner_marks text.now }
 {
-    let mut n = 0;
-    let mut i = 0;
-    while i < text.len() {
-        let b = text[i];
-        i += 1;
-        if (b == Mark::SUBVALUE.byte) | (b == Mark::VALUE.byte) {
-            n += 1;
-        }
-    }
-    n
+    lent::count(
+        text,
+        |b| (b == Mark::SUBVALUE.byte) | (b == Mark::VALUE.byte),
+    )
 }
 
 // "Ceiling: with A attribute loads and B other steps in the string, record length R and m elements, m x (A x (1,025 + R) + B x 4,097)", and of a
@@ -195,17 +165,11 @@ fn most_steps(m: u64, counts: Counts, size: u64) -> u64
 }
 
 // The ceiling of a conversion: refused as that is before its run, but for the scratch, which no ceiling asks for.
-pub fn ceiling(item: &[u8], code: &[u8], a: u64, v: u64, s: u64) -> Bound
-    ensures { result ≡ ceiling_told (ceiling_of item.now code.now a v s) }
+#[tactic(auto, using(crate::proofs::Counting::uncapped, crate::proofs::Counting::capped))]
+pub fn ceiling(item: &[u8], code: &[u8], at: Address) -> Result<u64, Refusal>
+    ensures { told result ≡ ceiling_of item.now code.now at.a at.v at.s }
 {
-    let refused = records::lawful_find(item, a, v, s);
-    if refused != 0 {
-        return Bound::Refused(refused);
-    }
-    let verdict = judging::check(code);
-    let Verdict::Accepted(counts) = verdict else {
-        return Bound::Refused(refusal_in(verdict));
-    };
-    let m = 1 + inner_marks(records::part(item, a, v, s));
-    Bound::Most(most_steps(m, counts, item.len() as u64))
+    let counts = counted(item, code, at)?;
+    let m = 1 + inner_marks(records::part(item, at));
+    Ok(most_steps(m, counts, item.len() as u64))
 }

@@ -54,7 +54,6 @@ module _ (κs : Lfts 3) (args : _) (r : _) (exits : _) (post : algebra_call.Post
   -- where it returned 0, the F text is the answer
   module _ (answered : r ≡ 0) where
     pub algebra_showed : show code room ≡ given f_text
-    unfolding answer_length
     algebra_showed =
         let (text, e) = show_answered code room (sym post.0 ∙ answered) in
         let same : f_text ≡ answer_of (show code room) = rw (post.1.0, post.1.1) (first_bytes room (show code room)) in

@@ -100,7 +100,7 @@ module _ (κs : Lfts 5) (args : _) (r : _) (exits : _) (post : convert_call.Post
   pub budget_refuses : budget < freely.steps
       → (r ≡ over_budget) × Completed budget 0 (defined_costs item a v s (ready item code a v s scratch)) steps
       × (told_length ≡ 0) × (output ≡ replicate room 0) × (scratch_left ≡ scratch_after scratch)
-  unfolding answer_length output_after buffer
+  unfolding output_after buffer
   budget_refuses l =
       let short = converting_over_budget item code a v s budget room scratch l in (
         post.0 ∙ ap refusal_of short.0,
@@ -172,7 +172,6 @@ module _ (κs : Lfts 5) (args : _) (r : _) (exits : _) (post : convert_call.Post
       (same_code : args'.1.0.now ≡ code) (same_a : args'.1.1.0 ≡ a) (same_v : args'.1.1.1.0 ≡ v) (same_s : args'.1.1.1.1.0 ≡ s) where
     -- the count is never above it, also where it is 0 beside a refusal
     pub steps_at_most_told_ceiling : steps ≤ exits'.1.1.1.1.1.0.now
-    unfolding ceiling_number
     steps_at_most_told_ceiling =
         rw (post.1.0, capped.1, same_item, same_code, same_a, same_v, same_s) (go (ceiling_of item code a v s) refl)
       where
@@ -192,7 +191,6 @@ module _ (κs : Lfts 3) (args : _) (r : _) (exits : _) (post : ceiling_call.Post
       (post.0 ∙ ap refusal_of e, told.0, told.1)
 
   pub ceiling_given : (n : ℕ) → asked ≡ given n → (r ≡ 0) × (exits.1.1.1.1.1.0.now ≡ n)
-  unfolding ceiling_number
   ceiling_given n e = (post.0 ∙ ap refusal_of e, post.1 ∙ ap ceiling_number e)
 
   pub zero_capped : r ≡ 0 → (n : ℕ) × (asked ≡ given n)
@@ -234,7 +232,6 @@ module _ (κs : Lfts 4) (args : _) (r : _) (exits : _) (post : replace_call.Post
       (same_a : args'.1.0 ≡ at_a) (same_v : args'.1.1.0 ≡ at_v) (same_s : args'.1.1.1.0 ≡ at_s) where
     pub found_after_replace : (r' ≡ 0) × (exits'.1.1.1.1.0.now ≡ 1)
         × (take exits'.1.1.1.1.1.1.0.now (drop exits'.1.1.1.1.1.0.now written) ≡ new)
-    unfolding found_number
     found_after_replace =
         let (p, e, i) = replacing.found_after_replace old at_a at_v at_s new (length args.1.1.0.now) replaced_as in
         let n = replacing.find_after_replace old at_a at_v at_s new (length args.1.1.0.now) replaced_as in (

@@ -3,4 +3,3 @@ pub mod Demands
 pub mod Rereading
 pub mod Settled
 pub mod Symmetry
-pub mod Told

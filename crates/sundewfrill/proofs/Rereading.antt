@@ -36,12 +36,12 @@ replace_answered item a v s new room =
 
 -- the answer is the first bytes of the output, as many as the length told
 pub first_bytes : (room : ℕ) (x : Res Bytes) → take (answer_length x) (buffer room (answer_of x)) ≡ answer_of x
-unfolding answer_length buffer
+unfolding buffer
 first_bytes room x = take_at (answer_of x) _ _ refl
 
 -- the bytes that the numbers of finding name in the record are those that extraction hands back
 named_as : {item : Bytes} {x : Res (Option Part)} → Inside item x → take (part_length x) (drop (start_number x) item) ≡ extract x
-unfolding part_length start_number extract
+unfolding extract
 named_as (found p h t) = sym t
 named_as missing = refl
 named_as (refused_so n) = refl

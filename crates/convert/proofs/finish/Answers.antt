@@ -1,19 +1,21 @@
--- `convert::finish` meets its contract: 16 where the answer is longer than the output, zeros behind it, and zeros in the scratch.
-use mathlib.Core.Path.{◌∙◌}
-use Rattle.convert.proofs.Answering.{finished_stopped, finished_short, finished_whole}
+-- `convert::finish` meets its contract: zeros behind the answer, or throughout, and in the scratch.
+use Prim.Native.Nat.{ℕ, ◌≤◌}
+use mathlib.Core.Path.{ap, ◌∙◌}
+use lib.ListN.{length}
+use borrow.Author.Rules.{rules}
+use Rattle.paper.specs.Converting.{Ending}
+use Rattle.convert.specs.Finishing.{finished_out}
+use Rattle.convert.proofs.Answering.{filled}
 use Rattle.convert.proofs.Stages.{zero_scratch}
 use Rattle.convert.proofs.finish.Goals as goal
 
-pub returns-in_default : goal.returns-in_default
-returns-in_default c =
-    let p = finished_stopped _ _ _ _ c.in_default.is c.unanswered.ensures in record { value = p.0; out_after = c.clear-in_default.ensures ∙ p.1; scratch_after = c.clear.ensures ∙ zero_scratch _ }
+pub returns-clause-out_after : goal.returns-clause-out_after
+returns-clause-out_after c =
+    let out = c.args.out.now in
+    let e = c.unwrap_or-length.ensures in
+    let inside : c.unwrap_or-length.result ≤ length c.args.out.now = search rules in
+    rw e at c.fill.ensures ∙ filled out c.fitted-converted.result.answer (rw e at inside)
+    ∙ ap (λ (x : Ending ℕ). finished_out out x.answer) c.fitted-converted.ensures
 
-pub returns-then-out-length : goal.returns-then-out-length
-returns-then-out-length c =
-    let p = finished_short _ _ _ _ c.in-Done.is c.if-out-length.true c.unanswered-then-out-length.ensures in
-    record { value = p.0; out_after = c.clear-then-out-length.ensures ∙ p.1; scratch_after = c.clear.ensures ∙ zero_scratch _ }
-
-pub returns : goal.returns
-returns c =
-    let p = finished_whole _ _ _ _ c.in-Done.is c.if-out-length.false in
-    record { value = p.0; out_after = c.fill.ensures ∙ p.1; scratch_after = c.clear.ensures ∙ zero_scratch _ }
+pub returns-clause-scratch_after : goal.returns-clause-scratch_after
+returns-clause-scratch_after c = c.clear.ensures ∙ zero_scratch _
