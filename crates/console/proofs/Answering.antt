@@ -19,10 +19,12 @@ use Rattle.paper.proofs.Budget.{steps_within_budget}
 use Rattle.paper.proofs.Numbered.{converting_told}
 use Rattle.lent.specs.Over.{over}
 use Rattle.lent.proofs.Laws.{length_over}
-use Rattle.convert.specs.Finishing.{converted_of}
+use Rattle.std.specs.Prelude.{Result, Ok, Err}
+use Rattle.paper.specs.Answers.{told, sized, number_of}
+use Rattle.paper.specs.declared.Refusal.{Refusal}
+use Rattle.paper.specs.declared.Address.{Address as CodedAddress}
 use Rattle.convert.specs.declared.Converted.{Converted}
-use Rattle.grammar.specs.Addresses.{address_read, address_refusal}
-use Rattle.grammar.specs.declared.ReadAddress.{ReadAddress}
+use Rattle.grammar.specs.Addresses.{address_read}
 use Rattle.console.specs.Lines.{numbered, shown, line_most}
 use Rattle.console.proofs.Writing.{shown_printed, shown_short}
 
@@ -48,64 +50,60 @@ unfolding scratch_least entry_most
 lent_scratch = length-replicate {A = ℕ} 20_480 0
 
 -- What the program converts, as `convert` answers it.
-module _ (item string : Bytes) (a v s : ℕ) {room scratch : ℕ} {r : Converted} {out : Bytes}
-    (e : r ≡ converted_of (convert item string a v s program_budget room scratch))
+module _ (item string : Bytes) (a v s : ℕ) {room scratch : ℕ} (r : Converted) {out : Bytes}
+    (e : told r.answer ≡ sized (convert item string a v s program_budget room scratch).answer)
+    (k : r.steps ≡ (convert item string a v s program_budget room scratch).steps)
     (f : out ≡ output_after room (convert item string a v s program_budget room scratch))
     (wide : room ≡ record_most)
     (deep : scratch ≡ scratch_least) where
   abbrev outcome : Outcome
   outcome = convert item string a v s program_budget room scratch
 
-  length_is : r.length ≡ length (answer_of outcome.answer)
-  unfolding converted_of
-  length_is = ap (λ (x : Converted). x.length) e
+  -- the steps are short enough to write
+  pub steps_short : r.steps ≤ number_most
+  steps_short = omega (arith, k, steps_within_budget item string a v s program_budget room scratch)
 
-  pub length_fits : r.length ≤ room
-  length_fits = omega (arith, length_is, answer_fits item string a v s program_budget room scratch)
+  -- the answer stands in front of the output
+  pub text_is : {n : ℕ} → r.answer ≡ Ok n → (outcome.answer ≡ given (take n out)) × (n ≤ room)
+  text_is {n} g = go outcome.answer refl (rw g at e)
+    where
+      go : (x : Res Bytes) → outcome.answer ≡ x → given n ≡ sized x → (outcome.answer ≡ given (take n out)) × (n ≤ room)
+      go (given bs) h j =
+          let long : n ≡ length bs = cc in
+          let counted : n ≡ length (answer_of outcome.answer) = omega (arith, ap (λ (x : Res Bytes). length (answer_of x)) h) in
+          let front = ap (λ (k : ℕ). take k out) counted ∙ ap (take (length (answer_of outcome.answer))) f ∙ answer_in_front room outcome ∙ ap answer_of h in
+          (h ∙ ap given (sym front), omega (arith, answer_fits item string a v s program_budget room scratch, ap (λ (x : Res Bytes). length (answer_of x)) h))
+      go (refused m) h j = cc
 
-  answer_is : take (r.length - 0) out ≡ answer_of outcome.answer
-  answer_is =
-      let k : r.length - 0 ≡ length (answer_of outcome.answer) = omega (arith, length_is) in
-      ap (λ (n : ℕ). take n out) k ∙ ap (take (length (answer_of outcome.answer))) f ∙ answer_in_front room outcome
-
-  -- what `show` asks for
-  pub showable : (r.number ≤ number_most) × (r.steps ≤ number_most) × (length (take (r.length - 0) out) ≤ record_most)
-  unfolding converted_of
-  showable = (
-    omega (arith, ap (λ (x : Converted). x.number) e, (converting_told item string a v s program_budget room scratch).0),
-    omega (arith, ap (λ (x : Converted). x.steps) e, steps_within_budget item string a v s program_budget room scratch),
-    omega (arith, ap length answer_is, answer_fits item string a v s program_budget room scratch),
-  )
+  pub refusal_is : {q : Refusal} → r.answer ≡ Err q → outcome.answer ≡ refused (number_of q)
+  refusal_is {q} g = go outcome.answer refl (rw g at e)
+    where
+      go : (x : Res Bytes) → outcome.answer ≡ x → refused (number_of q) ≡ sized x → outcome.answer ≡ refused (number_of q)
+      go (given bs) h j = cc
+      go (refused m) h j = h ∙ cc
 
   -- the line is the paper's
-  pub line_is : {o : Option Address} → o ≡ some (record { a = a; v = v; s = s }) → shown r.number r.steps (take (r.length - 0) out) ≡ answered string item o
-  unfolding converted_of answered
-  line_is g =
-      ap (λ (x : Converted). shown x.number x.steps (take (r.length - 0) out)) e
-      ∙ ap (shown (refusal_of outcome.answer) outcome.steps) answer_is
+  pub line_is : {x : Res Bytes} → outcome.answer ≡ x → {o : Option Address} → o ≡ some (record { a = a; v = v; s = s }) → shown x r.steps ≡ answered string item o
+  unfolding answered
+  line_is {x} h g =
+      ap (λ (y : Res Bytes). shown y r.steps) (sym h)
+      ∙ ap (shown outcome.answer) k
       ∙ shown_printed outcome
       ∙ sym (ap (answered string item) g ∙ ap (λ (n : ℕ). printed (convert item string a v s program_budget n scratch_least)) (sym wide) ∙ ap (λ (n : ℕ). printed (convert item string a v s program_budget room n)) (sym deep))
 
 -- the address as the code has it
-pub address_bad : (o : Option Address) {r : ReadAddress} {n number : ℕ} → r ≡ address_read o → r ≡ ReadAddress.Refused n → number ≡ address_refusal r
-    → (o ≡ none) × (number ≡ bad_address)
-unfolding address_read
-address_bad none e f g = (refl, g ∙ ap address_refusal e)
-address_bad (some p) e f g = let z : ◌≡◌ {A = ℕ} 0 1 = cc in absurd (omega arith)
+pub address_bad : (o : Option Address) {q : Refusal} → Err q ≡ address_read o → (o ≡ none) × (q ≡ Refusal.BadAddress)
+address_bad none e = (refl, cc)
+address_bad (some p) e = cc
 
-pub address_good : (o : Option Address) {r : ReadAddress} {a v s : ℕ} → r ≡ address_read o → r ≡ ReadAddress.Address a v s → o ≡ some (record { a = a; v = v; s = s })
-unfolding address_read
-address_good none e f = let z : ◌≡◌ {A = ℕ} 0 1 = cc in absurd (omega arith)
-address_good (some p) {r} {a} {v} {s} e f =
-    let x : p.a ≡ a = cc in
-    let y : p.v ≡ v = cc in
-    let z : p.s ≡ s = cc in
-    rw (← x, ← y, ← z)
+pub address_good : (o : Option Address) {p : CodedAddress} → Ok p ≡ address_read o → o ≡ some (record { a = p.a; v = p.v; s = p.s })
+address_good none e = cc
+address_good (some p) {p = q} e = let same : q ≡ record { a = p.a; v = p.v; s = p.s } = cc in rw same
 
 -- "it prints `4 0 ` and a line end"
-pub refused_line : (string item : Bytes) {o : Option Address} {number : ℕ} → (o ≡ none) × (number ≡ bad_address) → shown number 0 [] ≡ answered string item o
+pub refused_line : (string item : Bytes) {o : Option Address} {q : Refusal} → (o ≡ none) × (q ≡ Refusal.BadAddress) → shown (refused (number_of q)) 0 ≡ answered string item o
 unfolding shown numbered answered bytes decimal digits trimmed
-refused_line string item w = ap (λ (n : ℕ). shown n 0 []) w.1 ∙ sym (ap (answered string item) w.0)
+refused_line string item w = ap (λ (q : Refusal). shown (refused (number_of q)) 0) w.1 ∙ sym (ap (answered string item) w.0)
 
 -- no line of the program's is too long
 answered_short : (string item : Bytes) (o : Option Address) → length (answered string item o) ≤ line_most
@@ -116,7 +114,7 @@ answered_short string item (some p) =
     omega (
       arith,
       ap length (shown_printed o),
-      shown_short (refusal_of o.answer) o.steps (answer_of o.answer),
+      shown_short o.answer o.steps,
       answer_fits item string p.a p.v p.s program_budget record_most scratch_least,
     )
 

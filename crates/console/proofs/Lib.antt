@@ -1,4 +1,3 @@
-pub mod Reading
 pub mod Writing
 pub mod Answering
 pub mod Settled

@@ -3,20 +3,19 @@
 // `main` only reads and writes; what the system hands over is not part of any statement.
 #![tactic(auto)]
 
-ghost use Rattle.std.specs.Prelude.{◌≡◌, map, ◌+◌, ◌≤◌, length, drop};
+ghost use Rattle.std.specs.Prelude.{◌≡◌, map, ◌+◌, ◌≤◌, length};
 ghost use Rattle.paper.specs.Sizes.{number_digits, number_most, record_most};
+ghost use Rattle.paper.specs.Refusals.{answer_of};
 ghost use Rattle.paper.specs.Program.{drawn, program};
 ghost use Rattle.lent.specs.Over.{over};
-ghost use Rattle.lent.specs.Scan.{upto};
-ghost use Rattle.console.specs.Lines.{numbered, shown, responded, line_most};
+ghost use Rattle.console.specs.Lines.{numbered, shown, told_bytes, responded, line_most};
 
-use grammar::ReadAddress;
-use paper::{Limit, Mark};
+use cases::field;
+use paper::{Limit, Mark, Refusal};
 use std::io;
 use std::io::Write;
+use streams::READS;
 
-// "only 65,536 bytes are read"
-const READS: usize = 65_536;
 // "It converts with budget 1,000,000"
 const BUDGET: u64 = 1_000_000;
 // The longest line: two numbers and their blanks, an answer and a line end.
@@ -28,12 +27,11 @@ fn draw(text: &[u8], line: &mut [u8], at: usize) -> usize
     ensures value { result ≡ at + length text.now }
     ensures line_after { line.new ≡ over line.old at (map drawn text.now) }
 {
-    let mut j = 0;
-    while j < text.len() {
-        line[at + j] = Mark::drawn(text[j]);
-        j += 1;
+    // An index is kept here: of what is written through `iter_mut` a proof knows the length alone.
+    for (j, &byte) in text.iter().enumerate() {
+        line[at + j] = Mark::drawn(byte);
     }
-    at + j
+    at + text.len()
 }
 
 // A number and a blank, at a place; the place after them.
@@ -43,20 +41,21 @@ fn number(n: u64, line: &mut [u8], at: usize) -> usize
     ensures line_after { line.new ≡ over line.old at (numbered n) }
 {
     let end = at + numbers::writing::decimal(n, line, at);
-    lent::fill(line, end, 1, b' ');
+    line[end] = b' ';
     end + 1
 }
 
 // "refusal number (0 for none), steps and answer, parted by single blanks, marks drawn", and a line end
-fn show(refusal: u64, steps: u64, answer: &[u8], line: &mut [u8]) -> usize
-    requires { (refusal ≤ number_most) × (steps ≤ number_most) × (length answer.now ≤ record_most) × (line_most ≤ length line.old) }
-    ensures value { result ≡ length (shown refusal steps answer.now) }
-    ensures line_after { line.new ≡ over line.old 0 (shown refusal steps answer.now) }
+fn show(answer: Result<&[u8], Refusal>, steps: u64, line: &mut [u8]) -> usize
+    requires { (length (answer_of (told_bytes answer)) ≤ record_most) × (steps ≤ number_most) × (line_most ≤ length line.old) }
+    ensures value { result ≡ length (shown (told_bytes answer.entry) steps) }
+    ensures line_after { line.new ≡ over line.old 0 (shown (told_bytes answer.entry) steps) }
 {
+    let refusal = answer.err().map_or(0, Refusal::number);
     let first = number(refusal, line, 0);
     let second = number(steps, line, first);
-    let end = draw(answer, line, second);
-    lent::fill(line, end, 1, b'\n');
+    let end = draw(answer.unwrap_or(&[]), line, second);
+    line[end] = b'\n';
     end + 1
 }
 
@@ -66,51 +65,31 @@ fn respond<'a>(code: &'a [u8], address: &[u8], item: &'a [u8], line: &mut [u8]) 
     ensures value { result ≡ length (responded code.now address.now item.now) }
     ensures line_after { line.new ≡ over line.old 0 (responded code.now address.now item.now) }
 {
-    let read = grammar::addresses::address(address);
-    let ReadAddress::Address { a, v, s } = read else {
-        return show(read.refusal(), 0, &address[0..0], line);
+    let at = match grammar::addresses::address(address) {
+        Ok(at) => at,
+        Err(refusal) => return show(Err(refusal), 0, line),
     };
     let mut out = [0u8; Limit::RECORD.most];
     let mut scratch = [0u8; Limit::SCRATCH.most];
-    let converted = convert::convert(item, code, a, v, s, BUDGET, &mut out, &mut scratch);
-    let length = converted.length;
-    show(converted.number, converted.steps, &out[0..length], line)
+    let converted = convert::convert(item, code, at, BUDGET, &mut out, &mut scratch);
+    match converted.answer {
+        Ok(length) => show(Ok(&out[..length]), converted.steps, line),
+        Err(refusal) => show(Err(refusal), converted.steps, line),
+    }
 }
 
-// "A line ends at byte 10", or with the text.
-fn line_end(text: &[u8], from: usize) -> usize
-    requires { from ≤ length text.now }
-    ensures { result ≡ from + length (upto 10 10 (drop from text.now)) }
-{
-    lent::first_within(text, from, text.len(), b'\n', b'\n')
-}
-
-// Where the next line begins: "missing lines are empty", so behind the last one it is the end of the text.
-fn next_line(text: &[u8], end: usize) -> usize
-    requires { end ≤ length text.now }
-    ensures { (result ≤ length text.now) × (drop result text.now ≡ drop (end + 1) text.now) }
-{
-    if end < text.len() { end + 1 } else { end }
-}
-
-// From the bytes read to the bytes written.
+// From the bytes read to the bytes written: "A line ends at byte 10", "missing lines are empty".
+#[tactic(auto, unfolding(paper::specs::Program::line, paper::specs::Program::program))]
 fn answer(input: &[u8], line: &mut [u8]) -> usize
     requires { line_most ≤ length line.old }
     ensures value { result ≡ length (program input.now) }
     ensures line_after { line.new ≡ over line.old 0 (program input.now) }
 {
     let text = lent::front(input, READS);
-    let code_end = line_end(text, 0);
-    let second = next_line(text, code_end);
-    let address_end = line_end(text, second);
-    let third = next_line(text, address_end);
-    let item_end = line_end(text, third);
-    respond(
-        &text[0..code_end],
-        &text[second..address_end],
-        &text[third..item_end],
-        line,
-    )
+    let code = field(text, 0, b'\n');
+    let address = field(text, 1, b'\n');
+    let item = field(text, 2, b'\n');
+    respond(code, address, item, line)
 }
 
 fn main(rt: HostRuntime) -> io::Result<()> {

@@ -4,31 +4,33 @@
 #![tactic(auto)]
 
 ghost use Rattle.std.specs.Prelude.{◌≡◌, ◌≤◌, length};
-ghost use Rattle.paper.specs.Sizes.{number_most, code_most};
+ghost use Rattle.paper.specs.Sizes.{code_most};
+ghost use Rattle.paper.specs.Refusals.{answer_of};
 ghost use Rattle.lent.specs.Over.{over};
-ghost use Rattle.formula.specs.Formula.{told, formula, line_most};
+ghost use Rattle.formula.specs.Formula.{told_bytes, told_of, formula, line_most};
 
-use paper::{Given, Limit};
+use paper::{Limit, Refusal};
 use std::io;
 use std::io::Write;
+use streams::READS;
 
-// "only 65,536 bytes are read", as by the program of document 01
-const READS: usize = 65_536;
 // The longest line: a number and its blank, an F text and a line end.
 const LINE: usize = Limit::DIGITS.most + 1 + Limit::CODE.most + 1;
 
-// A refusal and an F text, parted by a blank, and a line end.
-fn tell(refusal: u64, text: &[u8], line: &mut [u8]) -> usize
-    requires { (refusal ≤ number_most) × (length text.now ≤ code_most) × (line_most ≤ length line.old) }
-    ensures value { result ≡ length (told refusal text.now) }
-    ensures line_after { line.new ≡ over line.old 0 (told refusal text.now) }
+// A refusal, 0 for none, and an F text, parted by a blank, and a line end.
+fn tell(shown: Result<&[u8], Refusal>, line: &mut [u8]) -> usize
+    requires { (length (answer_of (told_bytes shown)) ≤ code_most) × (line_most ≤ length line.old) }
+    ensures value { result ≡ length (told_of (told_bytes shown.entry)) }
+    ensures line_after { line.new ≡ over line.old 0 (told_of (told_bytes shown.entry)) }
 {
+    let refusal = shown.err().map_or(0, Refusal::number);
+    let text = shown.unwrap_or(&[]);
     let blank = numbers::writing::decimal(refusal, line, 0);
-    lent::fill(line, blank, 1, b' ');
+    line[blank] = b' ';
     let first = blank + 1;
     lent::copy_in(text, line, first);
     let end = first + text.len();
-    lent::fill(line, end, 1, b'\n');
+    line[end] = b'\n';
     end + 1
 }
 
@@ -38,13 +40,11 @@ fn answer(input: &[u8], line: &mut [u8]) -> usize
     ensures value { result ≡ length (formula input.now) }
     ensures line_after { line.new ≡ over line.old 0 (formula input.now) }
 {
-    let read = lent::front(input, READS);
-    let end = lent::first_within(read, 0, read.len(), b'\n', b'\n');
+    let code = cases::field(lent::front(input, READS), 0, b'\n');
     let mut text = [0u8; Limit::CODE.most];
-    let shown = algebra::show(&read[0..end], &mut text);
-    match shown {
-        Given::Length(length) => tell(0, &text[0..length], line),
-        Given::Refused(number) => tell(number, &text[0..0], line),
+    match algebra::show(code, &mut text) {
+        Ok(length) => tell(Ok(&text[..length]), line),
+        Err(refusal) => tell(Err(refusal), line),
     }
 }
 

@@ -7,63 +7,51 @@
 
 mod placed;
 mod showing;
-mod titles;
 
-use crate::showing::{say_byte, say_refusal, say_titled};
+use crate::placed::Call;
+use crate::showing::{say_day, say_refusal};
 use cases::{field, first_byte};
-use dates::TypedDay;
-use judging::{Counts, Verdict};
 use std::io;
 use std::io::Write;
-
-// "only 65,536 bytes are read", as by document 01's program
-const READS: usize = 65_536;
-
-fn say_counts<W: Write>(out: &mut W, counts: Counts) -> io::Result<()> {
-    say_refusal(out, 0)?;
-    say_titled(out, titles::LOADS, counts.loads)?;
-    say_titled(out, titles::OTHERS, counts.others)?;
-    say_titled(out, titles::PATTERNS, counts.patterns)?;
-    say_titled(out, titles::TESTS, counts.tests)
-}
+use streams::READS;
 
 // "the first bad code, 6 or 7", or 18, "with that code's number from 1; accepted, it gives A and B", and P and T with them
 fn check<W: Write>(out: &mut W, code: &[u8]) -> io::Result<()> {
     match judging::check(code) {
-        Verdict::Accepted(counts) => say_counts(out, counts),
-        Verdict::Refused { number, code } => {
-            say_refusal(out, number)?;
-            say_titled(out, titles::CODE, code)
-        }
+        Ok(counts) => write!(
+            out,
+            "refusal = 0, A = {}, B = {}, P = {}, T = {}",
+            counts.loads, counts.others, counts.patterns, counts.tests
+        ),
+        Err(bad) => write!(
+            out,
+            "refusal = {}, code = {}",
+            bad.refusal.number(),
+            bad.code
+        ),
     }
 }
 
-// "day 0 is 31 December 1967", and a day before it has a minus
 fn date<W: Write>(out: &mut W, code: &[u8], text: &[u8]) -> io::Result<()> {
     match typed::typed_date(code, text) {
-        TypedDay::Day { negative, size } => {
-            say_refusal(out, 0)?;
-            titles::say_title(out, titles::DAY)?;
-            if negative {
-                say_byte(out, b'-')?;
-            }
-            showing::say_number(out, size)
-        }
-        TypedDay::Refused(number) => say_refusal(out, number),
+        Ok(day) => say_day(out, day),
+        Err(refusal) => say_refusal(out, refusal),
     }
 }
 
 // A call that has no address, or else one that has.
 fn answer<W: Write>(out: &mut W, input: &[u8]) -> io::Result<()> {
-    let letter = first_byte(input);
     let first = field(input, 1, b'\n');
     let second = field(input, 2, b'\n');
-    match letter {
+    let third = field(input, 3, b'\n');
+    match first_byte(input) {
         b'c' => check(out, first)?,
         b'd' => date(out, first, second)?,
-        _ => placed::answer(out, letter, first, second, field(input, 3, b'\n'))?,
+        b'f' => placed::answer(out, Call::Find, first, second, third)?,
+        b'r' => placed::answer(out, Call::Replace, first, second, third)?,
+        _ => placed::answer(out, Call::Ceiling, first, second, third)?,
     }
-    say_byte(out, b'\n')
+    out.write_all(b"\n")
 }
 
 fn main(rt: HostRuntime) -> io::Result<()> {

@@ -9,70 +9,78 @@ mod days;
 mod places;
 mod runs;
 mod showing;
-mod words;
 
-use crate::showing::{say, say_byte};
 use cases::lines::{record_room, spelled_field};
-use cases::{field, first_byte, place};
+use cases::{field, first_byte};
 use std::io;
 use std::io::Write;
+use streams::READS;
 
-// How much of standard input is read.
-const READS: usize = 65_536;
+#[derive(Clone, Copy)]
+enum Table {
+    Checks,
+    Days,
+    Places,
+    Runs,
+}
 
-// The cases that have a record in field 2: room for one that is a byte too long.
-fn show_spelled<W: Write>(out: &mut W, line: &[u8], table: u8) -> io::Result<()> {
+impl Table {
+    // A table is told by its name's first byte.
+    fn named(name: &[u8]) -> Table {
+        match first_byte(name) {
+            b'c' => Table::Checks,
+            b'd' => Table::Days,
+            b'p' => Table::Places,
+            _ => Table::Runs,
+        }
+    }
+}
+
+// The record in field 2: room for one that is a byte too long.
+fn show_spelled<W: Write>(out: &mut W, line: &[u8], table: Table) -> io::Result<()> {
     let mut item = record_room();
     let n = spelled_field(line, 2, true, &mut item);
-    if table == b'p' {
-        places::show(out, line, &item[..n])
-    } else {
-        runs::show(out, line, &item[..n])
+    match table {
+        Table::Places => places::show(out, line, &item[..n]),
+        _ => runs::show(out, line, &item[..n]),
     }
 }
 
-fn show_case<W: Write>(out: &mut W, line: &[u8], table: u8) -> io::Result<()> {
-    if table == b'd' {
-        days::show(out, line)
-    } else {
-        show_spelled(out, line, table)
-    }
-}
-
-// The table is told by its name's first byte.
-fn show_answer<W: Write>(out: &mut W, line: &[u8], table: u8) -> io::Result<()> {
-    if table == b'c' {
-        checks::show(out, line)
-    } else if place(line, 0, b'|') < line.len() {
-        show_case(out, line, table)
-    } else {
-        Ok(())
+fn show_answer<W: Write>(out: &mut W, line: &[u8], table: Table) -> io::Result<()> {
+    let case = line.contains(&b'|');
+    match table {
+        Table::Checks => checks::show(out, line),
+        Table::Days if case => days::show(out, line),
+        _ if case => show_spelled(out, line, table),
+        _ => Ok(()),
     }
 }
 
 // Shows a line and what came of it; the table that the next line belongs to.
-fn show_line<W: Write>(out: &mut W, line: &[u8], table: u8) -> io::Result<u8> {
-    say(out, line)?;
+fn show_line<W: Write>(out: &mut W, line: &[u8], table: Table) -> io::Result<Table> {
+    out.write_all(line)?;
     let mut next = table;
     if first_byte(line) == b'@' {
-        next = first_byte(field(line, 1, b' '));
+        next = Table::named(field(line, 1, b' '));
     } else {
         show_answer(out, line, table)?;
     }
-    say_byte(out, b'\n')?;
+    out.write_all(b"\n")?;
     Ok(next)
 }
 
+// Each line ends at byte 10, the last one also without it.
 fn show_lines<W: Write>(out: &mut W, text: &[u8]) -> io::Result<()> {
-    let mut table = 0;
-    let mut at = 0;
-    while at < text.len() {
-        let end = place(text, at, b'\n');
-        table = show_line(out, &text[at..end], table)?;
-        if end == text.len() {
-            return Ok(());
-        }
-        at = end + 1;
+    if text.is_empty() {
+        return Ok(());
+    }
+    let mut table = Table::Runs;
+    for line in text
+        .strip_suffix(b"\n")
+        .unwrap_or(text)
+        .split(|b| *b == b'\n')
+    {
+        table = show_line(out, line, table)?;
     }
     Ok(())
 }

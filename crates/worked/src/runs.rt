@@ -1,8 +1,6 @@
 // Converting. A case is `CODE|ADDRESS|RECORD|BUDGET|OUTPUT|SCRATCH`, the last three where they matter; marks are drawn as in the paper.
 // Behind it stand its answer or refusal, its steps, and what it leaves in the buffers.
-use crate::showing::{say_text, say_titled};
-use crate::words;
-use crate::words::say_word;
+use crate::showing::{say_refused, say_text};
 use cases::field;
 use cases::lines::{length_or, lent_room, number_or, spelled_field, typed_address, zeros};
 use convert::Converted;
@@ -19,36 +17,32 @@ const SCRATCH: u64 = Limit::SCRATCH.most as u64;
 
 // The answer or the refusal, and the steps.
 fn say_converted<W: Write>(to: &mut W, given: Converted, out: &[u8]) -> io::Result<()> {
-    if given.number == 0 {
-        say_text(to, words::COLON, lent::front(out, given.length))?;
-    } else {
-        say_titled(to, words::REFUSED, given.number)?;
+    match given.answer {
+        Ok(length) => {
+            write!(to, ": ")?;
+            say_text(to, lent::front(out, length))?;
+        }
+        Err(refusal) => say_refused(to, refusal)?,
     }
-    say_titled(to, words::COMMA, given.steps)?;
-    say_word(to, words::STEPS)
+    write!(to, ", {} steps", given.steps)
 }
 
 // "that buffer holds the answer and then zeros to its end"
 fn say_output<W: Write>(to: &mut W, line: &[u8], length: usize, out: &[u8]) -> io::Result<()> {
     if field(line, 4, b'|').len() != 0 {
-        say_text(to, words::OUTPUT, out)?;
+        write!(to, ", output ")?;
+        say_text(to, out)?;
     }
     if !zeros(out, length) {
-        say_word(to, words::OUTPUT_NOT_ZEROS)?;
+        write!(to, ", output not zeros behind the answer")?;
     }
     Ok(())
 }
 
 // "Scratch is zeros throughout after every call."
 fn say_scratch<W: Write>(to: &mut W, scratch: &[u8]) -> io::Result<()> {
-    say_word(
-        to,
-        if zeros(scratch, 0) {
-            words::SCRATCH_ZEROS
-        } else {
-            words::SCRATCH_NOT_ZEROS
-        },
-    )
+    let not = if zeros(scratch, 0) { "" } else { "not " };
+    write!(to, ", scratch {not}zeros")
 }
 
 // What is answered and what is left.
@@ -62,9 +56,9 @@ fn converted<'a, W: Write>(
 ) -> io::Result<()> {
     let at = typed_address(line);
     let budget = number_or(line, 3, BUDGET);
-    let given = convert::convert(item, code, at.a, at.v, at.s, budget, out, scratch);
+    let given = convert::convert(item, code, at, budget, out, scratch);
     say_converted(to, given, out)?;
-    say_output(to, line, given.length, out)?;
+    say_output(to, line, given.answer.unwrap_or(0), out)?;
     say_scratch(to, scratch)
 }
 

@@ -14,7 +14,5 @@ unfolding drawn
 loop-j-preserved c =
     laying_more c.loop-j.invariant _ c.loop-j-test.true (c.drawn.ensures ∙ sym (get_or-map drawn c.args.text.now c.loop-j.j 0))
 
-pub returns : goal.returns
-returns c =
-    let l = c.loop-j.invariant in
-    record { value = omega (arith, l.within); line_after = laying_all l (omega arith) c.loop-j-test.false }
+pub returns-clause-line_after : goal.returns-clause-line_after
+returns-clause-line_after c = laying_all c.loop-j.invariant (omega arith) c.loop-j-test.false

@@ -1,4 +1,3 @@
-use Prim.Native.Nat.{◌-◌}
 use mathlib.Core.List.{map}
 use lib.ListN.{length}
 use Rattle.paper.specs.Program.{drawn}
@@ -7,6 +6,3 @@ use Rattle.console.proofs.draw.Given as goal
 
 abbrev pub invariant-loop-j : goal.invariant-loop-j
 invariant-loop-j l = Laying l.initial.line l.at (map drawn l.text) (length l.text) 0 l.j l.line
-
-abbrev pub decreases-loop-j : goal.decreases-loop-j
-decreases-loop-j l = length l.text - l.j
