@@ -15,7 +15,7 @@ use Rattle.std.specs.Cmp.Lexicographic.{slice_cmp}
 use Rattle.std.proofs.lemmas.Cmp.{ranked}
 use Rattle.paper.specs.Bytes.{Bytes}
 use Rattle.paper.specs.Sizes.{number_most}
-use Rattle.paper.specs.Refusals.{Res, given, refused, ◌>>◌, refuse◌unless◌}
+use Rattle.paper.specs.Refusals.{Res, given, ◌>>◌, refuse◌unless◌}
 use Rattle.paper.specs.Numbers.{Number as Whole, numeric, ranged, below, bytes_below, Order as Standing, order_by, compare_forms, compared}
 use Rattle.numbers.specs.Forms.{in_range}
 use Rattle.numbers.specs.Orders.{order_of, numbers_order, bytes_order}

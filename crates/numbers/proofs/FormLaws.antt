@@ -2,18 +2,18 @@
 use mathlib.Core.Path.{◌≡◌, refl, ap, ◌∙◌}
 use mathlib.Core.List.{[], ◌∷◌}
 use mathlib.Core.Option.{Option, none, some}
-use Prim.Native.Nat.{ℕ, ◌≤◌}
+use Prim.Native.Nat.{◌≤◌}
 use native.Mathlib.Omega.{arith}
 use lib.Dec.{leb}
 use lib.ListN.{length}
 use borrow.Author.Tests.{leb-true}
 use Rattle.paper.specs.Bytes.{Bytes}
 use Rattle.paper.specs.Sizes.{number_most}
-use Rattle.paper.specs.Refusals.{Res, given, refused, ◌>>=◌, out_of_range}
+use Rattle.paper.specs.Refusals.{Res, given, ◌>>=◌, out_of_range}
 use Rattle.paper.specs.Numbers.{Number as Whole, numeric, ranged}
 use Rattle.paper.specs.Masks.{on_number, number_gives}
 use Rattle.paper.proofs.Predicates.{Holds, refuses, held_by, holds_unless}
-use Rattle.numbers.specs.Forms.{in_range, convertible}
+use Rattle.numbers.specs.Forms.{convertible}
 
 -- a number that was ranged is in range
 abbrev pub Small : Whole → Type 0

@@ -5,14 +5,13 @@ use mathlib.Core.Bool.{Bool, true, false, not, ◌&&◌}
 use mathlib.Core.List.{[], ◌∷◌, ◌++◌}
 use mathlib.Core.Logic.{◌⊎◌, inl, inr, ⊎_elim}
 use mathlib.Core.Option.{none, some}
-use Prim.Native.Nat.{ℕ, zero, suc, ◌+◌, ◌-◌, ◌*◌, ◌≤◌, ◌<◌}
-use native.Mathlib.Nat.{not-suc-le-zero, le_of_eq}
+use Prim.Native.Nat.{ℕ, suc, ◌+◌, ◌-◌, ◌*◌, ◌≤◌, ◌<◌}
 use native.Mathlib.Numerals.{add-one}
 use native.Mathlib.Omega.{arith}
 use lib.Dec.{eqb}
 use lib.ListN.{length, get_or, take, drop, drop_of_length-le}
 use lib.Seq.{drop-cons, take-length}
-use borrow.Author.Tests.{le-leb, lt-leb, ne_eqb, eqb-true, eqb-false, not-true}
+use borrow.Author.Tests.{le-leb, lt-leb, ne_eqb, eqb-false, not-true}
 use Rattle.std.specs.Char.{is_ascii_digit}
 use Rattle.paper.specs.Bytes.{Bytes, is_digit, digit_value}
 use Rattle.paper.specs.Sizes.{number_most}

@@ -1,6 +1,9 @@
 -- The code's numbers beside those of the definitions, and what a numeric form is read as.
+use Rattle.std.specs.Prelude.{◌∷◌, if◌then◌else◌}
+use Rattle.std.specs.Fmt.{decimal}
 use Rattle.std.proofs.Math.Option.{Option, none, some}
-use Rattle.paper.specs.Refusals.{Res, given, refused, not_convertible}
+use Rattle.paper.specs.Bytes.{Bytes, ch}
+use Rattle.paper.specs.Refusals.{Res, refused, not_convertible}
 use Rattle.paper.specs.Numbers.{Number as Whole, ranged}
 use Rattle.numbers.specs.declared.Number.{Number}
 
@@ -20,3 +23,7 @@ in_range (some x) = some (ranged x)
 abbrev pub convertible : Option Whole → Res Whole
 convertible none = refused not_convertible
 convertible (some x) = ranged x
+
+-- a number as the programs print it: its size in decimal, behind a minus where it is negative
+abbrev pub printed : Number → Bytes
+printed x = if x.negative then ch "-" ∷ decimal x.size else decimal x.size

@@ -9,9 +9,9 @@ pub mod reading;
 mod reckoning;
 pub mod writing;
 
-ghost use Rattle.std.specs.Prelude.{◌≡◌};
+ghost use Rattle.std.specs.Prelude.{◌≡◌, Some};
 ghost use Rattle.paper.specs.Numbers.{signed};
-ghost use Rattle.numbers.specs.Forms.{whole};
+ghost use Rattle.numbers.specs.Forms.{whole, printed};
 
 use paper::Limit;
 use std::fmt;
@@ -46,6 +46,8 @@ impl Number {
 
 // A sign and a size, as the programs print a day.
 impl fmt::Display for Number {
+    ghost output = { λ x. Some (printed x) };
+
     fn fmt<W: fmt::Write>(&self, f: &mut fmt::Formatter<W>) -> fmt::Result {
         let sign = if self.negative { "-" } else { "" };
         let size = self.size;

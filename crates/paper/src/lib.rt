@@ -3,7 +3,8 @@
 // What document 01's calls answer is stated by specs/; the specs/ of the other crates only turn it into the forms that their code has.
 #![tactic(auto)]
 
-ghost use Rattle.std.specs.Prelude.{◌≡◌};
+ghost use Rattle.std.specs.Prelude.{◌≡◌, Some};
+ghost use Rattle.std.specs.Fmt.{decimal};
 ghost use Rattle.paper.specs.Answers.{number_of};
 ghost use Rattle.paper.specs.Program.{drawn};
 
@@ -114,6 +115,8 @@ impl Refusal {
 
 // As the paper writes it: by its number.
 impl fmt::Display for Refusal {
+    ghost output = { λ r. Some (decimal (number_of r)) };
+
     fn fmt<W: fmt::Write>(&self, f: &mut fmt::Formatter<W>) -> fmt::Result {
         let number = self.number();
         write!(f, "{number}")
