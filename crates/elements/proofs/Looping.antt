@@ -6,13 +6,13 @@ use mathlib.Core.Bool.{Bool, true, false}
 use mathlib.Core.List.{[], ◌∷◌, ◌++◌}
 use native.Mathlib.Omega.{arith}
 use native.Mathlib.Numerals.{add-one}
-use lib.ListN.{length, take, drop, get_or, length-append, length-drop, length-take, drop_of_length-le}
+use lib.ListN.{length, take, drop, get_or, length-append, length-drop, drop_of_length-le}
 use lib.Seq.{drop-drop, drop-cons}
 use lib.Dec.{eqb}
 use borrow.Author.Tests.{eqb-true, eqb-false}
 use Rattle.paper.specs.Bytes.{Bytes, within}
 use Rattle.paper.specs.Sizes.{entry_most, record_most, position_most, value_mark, subvalue_mark}
-use Rattle.paper.specs.Refusals.{given, refused, answer_of}
+use Rattle.paper.specs.Refusals.{given, answer_of}
 use Rattle.paper.specs.Converting.{Outcome, within_budget}
 use Rattle.lent.specs.Scan.{range, upto}
 use Rattle.paper.proofs.Budget.{budget_kept}
@@ -73,9 +73,6 @@ other_mark : (b : ℕ) → within subvalue_mark value_mark b ≡ true → eqb b 
 other_mark b w n =
     let bounds = within_true subvalue_mark value_mark b w in
     omega (arith, bounds.0, bounds.1, eqb-false b value_mark n)
-
-one_byte : (end : ℕ) (bs : Bytes) → length (take (end + 1 - end) bs) ≤ 1
-one_byte end bs = let one : end + 1 - end ≡ 1 = omega arith in omega (arith, length-take (end + 1 - end) bs)
 
 abbrev pub counting : ℕ → ℕ → Meter
 counting budget steps = record { budget = budget; steps = steps }
@@ -169,22 +166,17 @@ module _ (item string text : Bytes) (budget : ℕ) where
           })
 
       -- an answer that is short stays so with the mark behind it
-      pub turn_gather : so_far < 2 ^ 62 → w.length + length (take (end + 1 - end) (drop end text)) < 2 ^ 63
+      pub turn_gather : so_far < 2 ^ 62 → w.length + 1 < 2 ^ 63
       unfolding entry_most
-      turn_gather h = omega (arith, one_byte end (drop end text), short_is, now.2)
+      turn_gather h = omega (arith, short_is, now.2)
 
-      -- the mark behind it is gathered too
+      -- the mark behind it is put too
       module _ (behind : end < length text) where
         abbrev mark : ℕ
         mark = get_or text end 0
 
         abbrev answer' : Bytes
         answer' = (turn.answer ++ bs) ++ mark ∷ []
-
-        mark_is : take (end + 1 - end) (drop end text) ≡ mark ∷ []
-        mark_is =
-            let one : end + 1 - end ≡ 1 = omega arith in
-            ap (λ (x : ℕ). take x (drop end text)) one ∙ ap (take 1) (drop-cons text end 0 behind)
 
         coming_by : (t : Bool) → eqb mark value_mark ≡ t
             → left entry_most item (codes_in string) budget answer' (if t then position (place.v + 1) 1 else position place.v (place.s + 1)).v
@@ -202,12 +194,12 @@ module _ (item string text : Bytes) (budget : ℕ) where
             (other_mark mark (upto_stops (drop at text) mark (drop (end + 1) text) (one_behind text at end turn.inside ends behind)) q))
             ∙ turn.coming
 
-        answered_turn : {out'' : Bytes} → out'' ≡ gathered_in out' w.length (take (end + 1 - end) (drop end text))
+        answered_turn : {out'' : Bytes} → out'' ≡ gathered_in out' w.length (mark ∷ [])
             → Turn item string text budget o room (end + 1) (passed mark place.v place.s) w.steps (w.length + 1) out''
         unfolding passed entry_most
         answered_turn {out''} laid =
             let whole : out'' ≡ gathered_in out' (length (turn.answer ++ bs)) (mark ∷ [])
-            = laid ∙ ap (gathered_in out' w.length) mark_is ∙ ap (λ (x : ℕ). gathered_in out' x (mark ∷ [])) (sym long_is) in
+            = laid ∙ ap (λ (x : ℕ). gathered_in out' x (mark ∷ [])) (sym long_is) in
             record {
               answer = answer';
               coming = coming_by (eqb mark value_mark) refl;
@@ -229,13 +221,12 @@ module _ (item string text : Bytes) (budget : ℕ) where
             passed_s true = omega arith
             passed_s false = omega (arith, turn.subvalues, (end_inside text at end turn.inside ends).0)
 
-        pub turn_next : {m : ℕ} {out'' : Bytes} → m ≡ w.length + length (take (end + 1 - end) (drop end text))
-            → out'' ≡ gathered_in out' w.length (take (end + 1 - end) (drop end text)) → {next : Position} → next ≡ passed (get_or text end 0) place.v place.s
+        pub turn_next : {m : ℕ} {out'' : Bytes} → m ≡ w.length + 1
+            → out'' ≡ gathered_in out' w.length (get_or text end 0 ∷ []) → {next : Position} → next ≡ passed (get_or text end 0) place.v place.s
             → Turn item string text budget o room (end + 1) next w.steps m out''
         turn_next {m} {out''} long laid {next} p =
-            let total : w.length + 1 ≡ m = omega (arith, long, ap length mark_is) in
             subst₂ (λ (q : Position) (x : ℕ). Turn item string text budget o room (end + 1) q w.steps x out'')
-            (sym p) total (answered_turn laid)
+            (sym p) (sym long) (answered_turn laid)
 
 -- sums that stay small: a text within a record's limit, and an answer behind its elements
 pub turn_small : (at room so_far : ℕ) → at ≤ room → room ≤ record_most → so_far ≤ 1_025 * at → so_far < 2 ^ 62

@@ -3,7 +3,7 @@
 // Only `convert` calls this: it lends an accepted string, the bytes that a lawful address reads, and what the machine asks.
 #![tactic(auto)]
 
-ghost use Rattle.std.specs.Prelude.{◌≡◌, ◌+◌, ◌^◌, ◌≤◌, ◌<◌, length};
+ghost use Rattle.std.specs.Prelude.{[], ◌∷◌, ◌≡◌, ◌+◌, ◌^◌, ◌≤◌, ◌<◌, length};
 ghost use Rattle.paper.specs.Sizes.{record_most, position_most};
 ghost use Rattle.stack.specs.Slots.{Lent};
 ghost use Rattle.machine.specs.Plans.{plan_of};
@@ -36,6 +36,20 @@ fn gather(src: &[u8], out: &mut [u8], so_far: usize) -> usize
         lent::copy_in(src, out, so_far);
     }
     end
+}
+
+// A mark behind the `so_far` bytes of the answer, where the output still has room; the answer's length with it.
+// Put and not gathered as a part of the text, which is a loop for one byte.
+#[tactic(auto, unfolding(crate::specs::Gather::gathered_in), using(lent::proofs::Laws::over_one))]
+fn put_mark(mark: u8, out: &mut [u8], so_far: usize) -> usize
+    requires { so_far + 1 < 2 ^ 63 }
+    ensures value { result ≡ so_far + 1 }
+    ensures out_after { out.new ≡ gathered_in out.old so_far (mark ∷ []) }
+{
+    if so_far < out.len() {
+        out[so_far] = mark;
+    }
+    so_far + 1
 }
 
 // One element through all codes: 9 before its first step where it is over-long.
@@ -100,7 +114,7 @@ fn pass(mark: u8, at: Position) -> Position
     }
 }
 
-// All elements of the bytes that an address reads, once from left to right. The mark behind an element is gathered and tells the next position:
+// All elements of the bytes that an address reads, once from left to right. The mark behind an element is put and tells the next position:
 // `split` drops it, and `split_inclusive` has no empty element behind a last one, so the walk goes by places.
 pub fn walk<'a>(
     item: &'a [u8],
@@ -132,10 +146,10 @@ pub fn walk<'a>(
         if text.len() <= end {
             return Ok(added);
         }
-        let next = end + 1;
-        so_far = gather(&text[end..next], out, added.length);
+        let mark = text[end];
+        so_far = put_mark(mark, out, added.length);
         steps = added.steps;
-        place = pass(text[end], place);
-        at = next;
+        place = pass(mark, place);
+        at = end + 1;
     }
 }

@@ -1,12 +1,12 @@
 -- The laws of `over`.
-use mathlib.Core.Path.{◌≡◌, sym, ◌∙◌}
+use mathlib.Core.Path.{◌≡◌, sym, ◌∙◌, subst}
 use mathlib.Core.List.{List, [], ◌∷◌, ◌++◌, append_assoc, append-nil}
-use Prim.Native.Nat.{ℕ, suc, ◌+◌, ◌≤◌, ◌<◌}
+use Prim.Native.Nat.{ℕ, suc, ◌+◌, ◌-◌, ◌≤◌, ◌<◌}
 use native.Mathlib.Nat.{add_assoc, add-zero, zero-add}
 use native.Mathlib.Numerals.{add-one}
 use native.Mathlib.Omega.{arith}
-use lib.ListN.{length, take, drop, set, length-append, length-drop, take-append-drop}
-use lib.Seq.{drop-length, drop-drop, drop_at, set_split, take-append-le, take-append_seam, drop-append-add, take-take, append_snoc, length-take-le}
+use lib.ListN.{length, take, drop, get_or, set, length-append, length-drop, take-append-drop, get_or-append}
+use lib.Seq.{drop-length, drop-drop, drop_at, set_split, get_or-append-add, get_or-drop, get_or-take, take-append-le, take-append_seam, drop-append-add, take-take, append_snoc, length-take-le}
 use borrow.Rule.Slice.PartMut.{put_mid}
 use Rattle.lent.specs.Over.{over}
 
@@ -63,6 +63,23 @@ over_ahead d at s t h =
 pub over_behind : (d s t : List ℕ) (n : ℕ) → n ≡ length s → over (over d 0 s) n t ≡ s ++ t ++ drop (length (s ++ t)) d
 over_behind d s t n e = rw (e, ← zero-add (length s)) (over_over d 0 s t (omega arith)) ∙ over_front d (s ++ t)
 
--- the length of n elements from `from` on
+-- what stands before the laid bytes, and what stands behind them, is what stood there
+pub before_over : (d : List ℕ) (at : ℕ) (s : List ℕ) (i : ℕ) → at ≤ length d → i < at → get_or (over d at s) i 0 ≡ get_or d i 0
+unfolding over
+before_over d at s i h k =
+    rw (append_assoc (take at d) s (drop (at + length s) d), get_or-append (take at d) (s ++ drop (at + length s) d) 0 i (omega (arith, length-take-le at d h)))
+    (get_or-take at d i 0 k)
+
+pub behind_over : (d : List ℕ) (at : ℕ) (s : List ℕ) (i : ℕ) → at ≤ length d → at + length s ≤ i → get_or (over d at s) i 0 ≡ get_or d i 0
+unfolding over
+behind_over d at s i h k =
+    let long : length (take at d ++ s) ≡ at + length s = simp (length-append, length-take-le at d h) in
+    let split : at + length s + (i - (at + length s)) ≡ i = omega arith in
+    subst (λ (j : ℕ). get_or (over d at s) j 0 ≡ get_or d j 0) split (rw (← long, get_or-append-add, get_or-drop))
+
+-- the j-th of n elements from `from` on
+pub nth_from : (d : List ℕ) (from n j : ℕ) → j < n → get_or (take n (drop from d)) j 0 ≡ get_or d (from + j) 0
+nth_from d from n j h = get_or-take n (drop from d) j 0 h ∙ get_or-drop from d j 0
+
 pub length_from : (d : List ℕ) (from n : ℕ) → from + n ≤ length d → length (take n (drop from d)) ≡ n
 length_from d from n h = length-take-le n (drop from d) (omega (arith, length-drop from d))

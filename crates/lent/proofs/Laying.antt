@@ -9,7 +9,7 @@ use native.Mathlib.Omega.{arith}
 use lib.ListN.{length, take, drop, get_or, set, replicate, length-append, length-set, length-replicate}
 use lib.Seq.{take-length, take-append_seam, take-suc, drop_at, drop-append-le, slice, slice_empty, slice-cons, length-take-le}
 use Rattle.lent.specs.Over.{over, Laid}
-use Rattle.lent.proofs.Laws.{over_none, over_one, over_over, over_ahead}
+use Rattle.lent.proofs.Laws.{over_none, over_one, over_over, over_ahead, before_over, behind_over}
 
 pub laid_at : {s d now : List ℕ} {at end : ℕ} → now ≡ over d at s → end ≡ at + length s → Laid s d end now at
 laid_at h e = record { place = sym e; bytes = h }
@@ -97,3 +97,10 @@ module _ {d s now : List ℕ} {at n i j : ℕ} (l : Laying d at s n i j now) whe
       let none : i ≡ 0 = omega arith in
       let all : j ≡ length s = omega arith in
       l.laid.bytes ∙ rw (none, all, add-zero, take-length)
+
+  -- what stands before the laid bytes, and what stands behind them, is what stood there
+  pub before_laying : (k : ℕ) → k < at + i → get_or now k 0 ≡ get_or d k 0
+  before_laying k h = rw l.laid.bytes (before_over d (at + i) (slice i j s) k (omega arith) h)
+
+  pub behind_laying : (k : ℕ) → at + j ≤ k → get_or now k 0 ≡ get_or d k 0
+  behind_laying k h = rw l.laid.bytes (behind_over d (at + i) (slice i j s) k (omega arith) (omega (arith, l.laid.place)))

@@ -66,6 +66,12 @@ module _ (m : ℕ) where
       go true e ih = rw (e, within_one m b ∙ e)
       go false e ih = rw (e, within_one m b ∙ e, later_opened k b (split m bs)) ih
 
+  -- of nothing every piece is empty
+  pub piece_none : (k : ℕ) → piece m k [] ≡ []
+  unfolding split nth
+  piece_none zero = refl
+  piece_none (suc k) = refl
+
   -- the piece at a place: its end, and its bytes
   module _ (text : Bytes) (from : ℕ) (h : from ≤ length text) {end : ℕ} (e : end ≡ from + length (upto m m (drop from text))) where
     pub end_inside : (from ≤ end) × (end ≤ length text)

@@ -1,7 +1,7 @@
 // What the crates above share on lent bytes: whether and how many bytes pass a test, scans for the first one; fill, clear and copy.
 // A scan that may be long goes by blocks, which is compiled to SIMD, and one that is short byte by byte.
 // A scan is stated by a test of the bytes; a writer by one list, `over`: the buffer with some bytes laid over it, every other as it was.
-// A writer is the slice's own method, so that its proof by `over` stands once and not at each call.
+// What fills is the slice's own method, so that its proof by `over` stands once and not at each call.
 // Only crates of ours call these; each asks that the bytes it goes over lie within the buffer.
 #![tactic(auto)]
 
@@ -155,12 +155,38 @@ pub fn clear(buf: &mut [u8])
     buf.fill(0);
 }
 
-// All of src from place `at` on.
+// All of src from place `at` on. Byte by byte, as the copies below: the slice's own method is a call of `memmove`, which the archive does not ask of its
+// host, and which costs more than an element that is empty or short. An index is kept: of what is written through `iter_mut` a proof knows the length alone.
 pub fn copy_in(src: &[u8], dst: &mut [u8], at: usize)
     requires { at + length src.now ≤ length dst.old }
     ensures { dst.new ≡ over dst.old at src.now }
 {
-    dst[at..at + src.len()].copy_from_slice(src);
+    for (j, &b) in src.iter().enumerate() {
+        dst[at + j] = b;
+    }
+}
+
+// Front to back, so that no byte is written before it is read: for a place below.
+fn copy_down(buf: &mut [u8], from: usize, to: usize, count: usize)
+    requires { (from + count ≤ length buf.old) × (to ≤ from) }
+    ensures { buf.new ≡ over buf.old to (take count (drop from buf.old)) }
+{
+    for j in 0..count {
+        buf[to + j] = buf[from + j];
+    }
+}
+
+// Back to front, so that no byte is written before it is read: for a place above.
+fn copy_up(buf: &mut [u8], from: usize, to: usize, count: usize)
+    requires { (to + count ≤ length buf.old) × (from ≤ to) }
+    ensures { buf.new ≡ over buf.old to (take count (drop from buf.old)) }
+{
+    // a `while`: what is left to copy is the index itself
+    let mut j = count;
+    while 0 < j {
+        j -= 1;
+        buf[to + j] = buf[from + j];
+    }
 }
 
 // `count` bytes from place `from` to place `to` of one buffer, also where the two overlap.
@@ -168,5 +194,9 @@ pub fn copy_within(buf: &mut [u8], from: usize, to: usize, count: usize)
     requires { (from + count ≤ length buf.old) × (to + count ≤ length buf.old) }
     ensures { buf.new ≡ over buf.old to (take count (drop from buf.old)) }
 {
-    buf.copy_within(from..from + count, to);
+    if to <= from {
+        copy_down(buf, from, to, count);
+    } else {
+        copy_up(buf, from, to, count);
+    }
 }

@@ -1,10 +1,10 @@
 -- Patterns tried test by test, and one after the other: what is told of those still to be read is told of all. Assumes nothing.
-use Prim.Native.Nat.{ℕ, ◌+◌, ◌≤◌, ◌<◌}
+use Prim.Native.Nat.{ℕ, ◌≤◌, ◌<◌}
 use native.Mathlib.Omega.{arith}
 use mathlib.Core.Path.{◌≡◌, refl, sym, ap, ◌∙◌}
 use mathlib.Core.Bool.{Bool, true, false}
 use mathlib.Core.Logic.{⊎_elim}
-use mathlib.Core.List.{List, [], ◌∷◌, ◌++◌}
+use mathlib.Core.List.{List, [], ◌∷◌}
 use mathlib.Core.Option.{Option, none, some}
 use lib.ListN.{length, drop}
 use lib.Dec.{eqb}
@@ -24,6 +24,8 @@ use Rattle.paper.proofs.Patterns.{cut_by, passes_from, nothing, passes_forward}
 use Rattle.paper.proofs.Truths.{ltb_or}
 use Rattle.paper.proofs.Limits.{limited_within, Answered, gives_bytes}
 use Rattle.paper.proofs.Predicates.{reads, reads_not, none_of, and_all}
+use Rattle.lent.specs.Over.{over}
+use Rattle.lent.proofs.Laws.{over_front}
 use Rattle.codes.specs.declared.Test.{Test}
 use Rattle.codes.specs.Meaning.{test_of, patterns_read, patterns_at}
 use Rattle.readers.specs.Places.{Peeked, byte_at, after, choose_or, this, numeral}
@@ -219,10 +221,10 @@ module _ {code : Bytes} {start : ℕ} (e : Bytes) (r : Readable code start) wher
       go (readable w) d = told d w
 
   module _ (held : Bytes) {passed : Bool} (fits : length e ≤ entry_most) (d : Decided (λ ps. some_passes ps e) passed (pattern_list (drop start code))) where
-    pub gives_element : {out : Bytes} → passed ≡ true → out ≡ e ++ drop (length e) held
+    pub gives_element : {out : Bytes} → passed ≡ true → out ≡ over held 0 e
         → Answered (limited entry_most (given (patterns_give (patterns_at code start) e))) held out (Ok (length e))
     unfolding patterns_give
-    gives_element h o = gives_bytes held e (limited_within entry_most (rw (sym (some_told d) ∙ h)) fits) refl o
+    gives_element h o = gives_bytes held e (limited_within entry_most (rw (sym (some_told d) ∙ h)) fits) refl (o ∙ over_front held e)
 
     pub gives_nothing : passed ≡ false → Answered (limited entry_most (given (patterns_give (patterns_at code start) e))) held held (Ok 0)
     unfolding patterns_give

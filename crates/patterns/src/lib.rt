@@ -29,7 +29,7 @@ pub fn give(code: &[u8], start: usize, e: &[u8], out: &mut [u8]) -> Result<usize
 {
     let mut reach = [0; FLAGS];
     if trying::some_passes(code, start, e, &mut reach) {
-        out[..e.len()].copy_from_slice(e);
+        lent::copy_in(e, out, 0);
         return Ok(e.len());
     }
     Ok(0)

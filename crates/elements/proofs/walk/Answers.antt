@@ -22,8 +22,8 @@ pub returns-then-text-end : goal.returns-then-text-end
 returns-then-text-end c =
     turn_last _ _ _ _ c.loop-added.invariant.0 _ c.next_within-end.ensures c.in_ok-added.ensures c.if-text-end.true refl
 
-pub gather-so_far-requires : goal.gather-so_far-requires
-gather-so_far-requires c =
+pub put_mark-so_far-requires : goal.put_mark-so_far-requires
+put_mark-so_far-requires c =
     let inv = c.loop-added.invariant.0 in
     turn_gather _ _ _ _ inv _ c.next_within-end.ensures c.in_ok-added.ensures
     (turn_small _ _ _ inv.inside c.requires.lent.2 inv.small)
@@ -31,6 +31,6 @@ gather-so_far-requires c =
 pub loop-added-preserved : goal.loop-added-preserved
 loop-added-preserved c = (
   turn_next _ _ _ _ c.loop-added.invariant.0 _ c.next_within-end.ensures c.in_ok-added.ensures c.if-text-end.false
-      c.gather-so_far.ensures.value c.gather-so_far.ensures.out_after c.pass-place.ensures,
+      c.put_mark-so_far.ensures.value c.put_mark-so_far.ensures.out_after c.pass-place.ensures,
   search rules,
 )

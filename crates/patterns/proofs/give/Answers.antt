@@ -1,5 +1,4 @@
 -- `give` writes the element where a pattern passes, else nothing.
-use mathlib.Core.Path.{refl}
 use native.Mathlib.Omega.{arith}
 use Rattle.paper.proofs.Limits.{entry_limit}
 use Rattle.patterns.proofs.Choosing.{gives_element, gives_nothing}
@@ -11,7 +10,7 @@ some_passes-requires c = omega (arith, entry_limit)
 pub returns-then-some_passes : goal.returns-then-some_passes
 returns-then-some_passes c =
     gives_element c.args.e.now c.requires.2 c.args.out.now c.requires.0 c.some_passes.ensures c.if-some_passes.true
-    (rw c.copy_from_slice.ensures.after refl)
+    c.copy_in.ensures
 
 pub returns : goal.returns
 returns c = gives_nothing c.args.e.now c.requires.2 c.args.out.now c.requires.0 c.some_passes.ensures c.if-some_passes.false

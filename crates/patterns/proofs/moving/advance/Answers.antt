@@ -2,7 +2,7 @@
 use Prim.Native.Nat.{◌+◌, ◌-◌}
 use mathlib.Core.Path.{◌≡◌}
 use native.Mathlib.Omega.{arith}
-use Rattle.patterns.proofs.Testing.{any_test, run_test, literal_test, literal_ends}
+use Rattle.patterns.proofs.Testing.{any_test, run_test, literal_test}
 use Rattle.patterns.proofs.moving.advance.Goals as goal
 
 pub returns-then-count-eq0 : goal.returns-then-count-eq0

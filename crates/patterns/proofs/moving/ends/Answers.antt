@@ -2,8 +2,7 @@
 use Prim.Native.Nat.{◌+◌, ◌-◌}
 use mathlib.Core.Path.{◌≡◌}
 use native.Mathlib.Omega.{arith}
-use Rattle.patterns.proofs.Marking.{end_told}
-use Rattle.patterns.proofs.Testing.{literal_told, literal_ends}
+use Rattle.patterns.proofs.Testing.{literal_told}
 use Rattle.patterns.proofs.moving.ends.Goals as goal
 
 pub returns-in-Literal : goal.returns-in-Literal
