@@ -1,7 +1,7 @@
 pub mod Taken
 pub mod Tallying
 pub mod Judging
-pub mod Parting
+pub mod Scans
 pub mod Mapped
 pub mod Turns
 pub mod Sizes

@@ -21,5 +21,5 @@ same_verdict (Err b) (Err d) g =
     let e : b.refusal ≡ d.refusal = same_refusal b.refusal d.refusal n in
     ap (λ (f : Refusal). Err (record { refusal = f; code = b.code })) e ∙ ap (λ (m : ℕ). Err (record { refusal = d.refusal; code = m })) k
 
-check_settled : (κs : Lfts 1) → (a : _) (r r' : _) (e e' : _) → check.Post κs a r e → check.Post κs a r' e' → r ≡ r'
+pub check_settled : (κs : Lfts 1) → (a : _) (r r' : _) (e e' : _) → check.Post κs a r e → check.Post κs a r' e' → r ≡ r'
 check_settled κs a r r' e e' p q = same_verdict r r' (p.0 ∙ sym q.0)

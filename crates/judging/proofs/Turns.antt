@@ -1,23 +1,34 @@
 -- A code string from code to code: what is left is the code that begins here and what is left after it.
 use Rattle.std.specs.Prelude.{Result, Ok, Err}
-use Prim.Native.Nat.{ℕ, suc, ◌<◌, ◌≤◌, ◌+◌}
+use Prim.Native.Nat.{ℕ, suc, ◌<◌, ◌≤◌, ◌+◌, ◌-◌}
 use mathlib.Core.Path.{◌≡◌, refl, sym, ap, ◌∙◌}
+use mathlib.Core.Bool.{Bool, true, false, true≢false, not, ◌&&◌}
+use mathlib.Core.Logic.{◌⊎◌, inl, inr, ⊎_elim}
 use mathlib.Core.List.{List, [], ◌∷◌}
-use lib.ListN.{length, drop, get_or, drop_of_length-le}
+use lib.ListN.{length, take, drop, get_or, length-drop}
+use lib.Seq.{get_or-drop}
+use lib.Dec.{eqb, leb}
 use native.Mathlib.Numerals.{add-one}
 use native.Mathlib.Omega.{arith}
-use borrow.Author.Tests.{le-leb, lt-leb}
-use Rattle.paper.specs.Bytes.{Bytes}
+use borrow.Author.Tests.{le-leb, lt-leb, leb-true, leb-false, eqb-true, eqb-false}
+use Rattle.paper.specs.Bytes.{Bytes, any}
+use Rattle.paper.specs.Sizes.{is_mark}
 use Rattle.paper.specs.Records.{split}
 use Rattle.paper.specs.Refusals.{Res, given, refused}
 use Rattle.paper.specs.Codes as codes
 use Rattle.paper.specs.Checking.{judged, judged_all, in_front, code_texts, check, Checked, accepted, faulty, code_counts, codes_counts, Report, report}
+use Rattle.lent.specs.Scan.{range, upto}
+use Rattle.grammar.specs.Heads.{code_end}
 use Rattle.judging.specs.Tallies.{counts_in, counts_of, no_steps, added}
-use Rattle.judging.specs.Verdicts.{judged_of, Verdict, lawful, bad, summed, verdict_in, verdict_of, report_in}
+use Rattle.judging.specs.Verdicts.{judged_of, stray, Verdict, lawful, bad, summed, verdict_in, verdict_of, report_in}
 use Rattle.judging.specs.declared.Counts.{Counts}
 use Rattle.judging.specs.declared.BadCode.{BadCode}
+use Rattle.paper.proofs.Truths.{ltb_or}
+use Rattle.lent.proofs.Scans.{range_rest}
+use Rattle.grammar.proofs.Cuts.{end_within, split_last, split_more}
 use Rattle.judging.proofs.Tallying.{added_none, none_added, added_more}
-use Rattle.std.proofs.lemmas.List.{at_drop_more}
+use Rattle.judging.proofs.Scans.{clear, clear_fits, clear_code, stray_code}
+use Rattle.judging.proofs.Judging.{judged_marked}
 
 -- what one code's judgement says of the code
 judged_fault : (bs : Bytes) (n : ℕ) → judged_of (judged bs) ≡ refused n → judged bs ≡ refused n
@@ -65,24 +76,67 @@ module _ (t : Counts) (k : ℕ) (bs : Bytes) {r : Res Counts} (e : r ≡ judged_
       go : (c : codes.Code) → judged bs ≡ given c → u ≡ added t (code_counts c) → summed t (judged_all k (bs ∷ ps)) ≡ summed u (judged_all (k + 1) ps)
       go c x y = rw (x, y, add-one) (summed_front t c (judged_all (suc k) ps))
 
--- The turns of checking, code by code: those that are left after n of them, and the steps of the others.
-pub turned : (ps : List Bytes) {p : Bytes} {n : ℕ} → (n < length ps) × (p ≡ get_or ps n p) → drop n ps ≡ p ∷ drop (n + 1) ps
-turned ps {p} {n} h = at_drop_more (λ (qs : List Bytes). qs) ps n p h.0 ∙ ap (λ (q : Bytes). q ∷ drop (n + 1) ps) (sym h.1)
-
-module _ (ps : List Bytes) (t : Counts) (k : ℕ) {p : Bytes} {n : ℕ} (h : (n < length ps) × (p ≡ get_or ps n p)) where
+-- The turns of checking: the code from `at` to `end`, judged r, after the steps t and k - 1 codes.
+module _ (s : Bytes) (at : ℕ) (t : Counts) (k : ℕ) (h : at ≤ length s) {end : ℕ} (e : end ≡ code_end (drop at s) at)
+    {r : Res Counts} (f : r ≡ judged_of (judged (take (end - at) (drop at s)))) where
   abbrev left : Verdict
-  left = summed t (judged_all k (drop n ps))
+  left = summed t (judged_all k (split 253 (drop at s)))
 
-  module _ {r : Res Counts} (f : r ≡ judged_of (judged p)) where
-    pub turn_fault : (m : ℕ) → r ≡ refused m → left ≡ bad m k
-    turn_fault m g = ap (λ (q : List Bytes). summed t (judged_all k q)) (turned ps h) ∙ summed_fault t k p f (drop (n + 1) ps) m g
+  turned : {ps : List Bytes} → split 253 (drop at s) ≡ ps → left ≡ summed t (judged_all k ps)
+  turned g = ap (λ (q : List Bytes). summed t (judged_all k q)) g
 
-    pub turn_more : {more u : Counts} → r ≡ given more → u ≡ added t (counts_of more)
-        → left ≡ summed u (judged_all (k + 1) (drop (n + 1) ps))
-    turn_more g x = ap (λ (q : List Bytes). summed t (judged_all k q)) (turned ps h) ∙ summed_more t k p f (drop (n + 1) ps) g x
+  pub turn_fault : (n : ℕ) → r ≡ refused n → left ≡ bad n k
+  turn_fault n g = ⊎_elim more last (ltb_or end (length s))
+    where
+      last : length s ≤ end → left ≡ bad n k
+      last j = let w = end_within s at h e in turned (split_last s at h e (omega arith)) ∙ summed_fault t k (take (end - at) (drop at s)) f [] n g
 
-pub turns_end : (ps : List Bytes) (t : Counts) (k n : ℕ) → length ps ≤ n → summed t (judged_all k (drop n ps)) ≡ lawful t
-turns_end ps t k n h = rw (drop_of_length-le ps h) (summed_done t k)
+      more : end < length s → left ≡ bad n k
+      more j = turned (split_more s at h e (omega arith)) ∙ summed_fault t k (take (end - at) (drop at s)) f (split 253 (drop (end + 1) s)) n g
+
+  module _ {more u : Counts} (g : r ≡ given more) (x : u ≡ added t (counts_of more)) where
+    pub turn_last : end ≡ length s → left ≡ lawful u
+    turn_last j = turned (split_last s at h e j) ∙ summed_more t k (take (end - at) (drop at s)) f [] g x ∙ summed_done u (k + 1)
+
+    pub turn_more : (end ≡ length s → ⊥) → left ≡ summed u (judged_all (k + 1) (split 253 (drop (end + 1) s)))
+    turn_more j = turned (split_more s at h e j) ∙ summed_more t k (take (end - at) (drop at s)) f (split 253 (drop (end + 1) s)) g x
+
+-- The same by the first mark from `at` on, which is at `end`: the code is all before it, unless it is a mark that no code has.
+module _ (s : Bytes) (at : ℕ) (h : at ≤ length s) {end : ℕ} (e : end ≡ at + length (upto 251 255 (range s at (length s)))) where
+  first_mark : end ≡ at + clear (drop at s)
+  first_mark = e ∙ ap (λ (l : Bytes). at + clear l) (range_rest s at)
+
+  mark_there : get_or (drop at s) (clear (drop at s)) 0 ≡ get_or s end 0
+  mark_there = get_or-drop at s (clear (drop at s)) 0 ∙ ap (λ (k : ℕ). get_or s k 0) (sym first_mark)
+
+  pub mark_within : (at ≤ end) × (end ≤ length s)
+  mark_within = omega (arith, first_mark, clear_fits (drop at s), length-drop at s)
+
+  pub marks_clear : stray s end ≡ false → (end ≡ code_end (drop at s) at) × (any is_mark (take (end - at) (drop at s)) ≡ false)
+  unfolding stray
+  marks_clear x =
+      let r = clear_code (drop at s) at (stops (leb (length s) end) (eqb (get_or s end 0) 253) refl refl x) in
+      let k : end - at ≡ clear (drop at s) = omega (arith, first_mark) in
+      (first_mark ∙ sym r.0, ap (λ (n : ℕ). any is_mark (take n (drop at s))) k ∙ r.1)
+    where
+      stops : (t u : Bool) → leb (length s) end ≡ t → eqb (get_or s end 0) 253 ≡ u → not t && not u ≡ false
+          → (clear (drop at s) ≡ length (drop at s)) ⊎ (get_or (drop at s) (clear (drop at s)) 0 ≡ 253)
+      stops true u et eu z = inl (omega (arith, leb-true (length s) end et, clear_fits (drop at s), length-drop at s, first_mark))
+      stops false true et eu z = inr (mark_there ∙ eqb-true (get_or s end 0) 253 eu)
+      stops false false et eu z = absurd (true≢false z)
+
+  pub marks_stray : (c : Counts) (k : ℕ) → stray s end ≡ true → summed c (judged_all k (split 253 (drop at s))) ≡ bad 6 k
+  unfolding stray
+  marks_stray c k x = stops (leb (length s) end) (eqb (get_or s end 0) 253) refl refl x
+    where
+      stops : (t u : Bool) → leb (length s) end ≡ t → eqb (get_or s end 0) 253 ≡ u → not t && not u ≡ true
+          → summed c (judged_all k (split 253 (drop at s))) ≡ bad 6 k
+      stops true u et eu z = absurd (true≢false (sym z))
+      stops false true et eu z = absurd (true≢false (sym z))
+      stops false false et eu z =
+          let m = stray_code (drop at s) at (omega (arith, leb-false (length s) end et, length-drop at s, first_mark))
+          (λ v. eqb-false (get_or s end 0) 253 eu (sym mark_there ∙ v)) in
+          turn_fault s at c k h refl (judged_marked (take (code_end (drop at s) at - at) (drop at s)) m) 6 refl
 
 pub turns_start : (s : Bytes) → summed no_steps (judged_all 1 (split 253 s)) ≡ verdict_of (judged_all 1 (split 253 s))
 turns_start s = summed_start (judged_all 1 (split 253 s))

@@ -5,7 +5,7 @@ use mathlib.Core.Bool.{Bool, true, false}
 use mathlib.Core.Logic.{⊎_elim}
 use mathlib.Core.List.{List, [], ◌∷◌}
 use mathlib.Core.Option.{Option, none, some}
-use lib.ListN.{length, take, drop, get_or}
+use lib.ListN.{length, take, drop}
 use lib.Dec.{eqb}
 use native.Mathlib.Omega.{arith}
 use borrow.Author.Tests.{eqb-true, eqb-false}
@@ -25,7 +25,7 @@ use Rattle.grammar.proofs.Parted.{elm_onto, elm_within, elms_none, elms_last, el
 use Rattle.grammar.proofs.Cuts.{end_within, split_last, split_more}
 use Rattle.judging.specs.Tallies.{counts_in, steps}
 use Rattle.judging.proofs.Tallying.{no_step}
-use Rattle.judging.proofs.Turns.{check_long, check_empty, check_parts, turned}
+use Rattle.judging.proofs.Turns.{check_long, check_empty, check_parts}
 use Rattle.judging.proofs.Sizes.{Headed, function_code, code_headed, steps_together, elms_sized, code_sized, judged_read}
 
 -- Its elms: the last one ends with the code; a semicolon stands behind every other, and the rest behind that.
@@ -124,7 +124,7 @@ function_elms s es e = go (code_headed s (codes.function es) e)
     go (function_code es f l g) = (elms_sized s 2 es g).0
 
 -- pieces with the byte that parts each from the next
-pub spans : List Bytes → ℕ
+spans : List Bytes → ℕ
 spans [] = 0
 spans (p ∷ ps) = length p + 1 + spans ps
 
@@ -134,14 +134,10 @@ opened_spans true b ps h = omega arith
 opened_spans false b [] h = absurd (omega arith)
 opened_spans false b (p ∷ ps) h = omega arith
 
-pub split_spans : (m : ℕ) (bs : Bytes) → spans (split m bs) ≡ length bs + 1
+split_spans : (m : ℕ) (bs : Bytes) → spans (split m bs) ≡ length bs + 1
 unfolding split spans
 split_spans m [] = refl
 split_spans m (b ∷ bs) = let h = split_spans m bs in omega (arith, opened_spans (eqb b m) b (split m bs) (omega arith))
-
-pub spans_turn : (ps : List Bytes) {p : Bytes} {n : ℕ} → (n < length ps) × (p ≡ get_or ps n p) → spans (drop n ps) ≡ length p + 1 + spans (drop (n + 1) ps)
-unfolding spans
-spans_turn ps h = ap spans (turned ps h)
 
 steps_within : (k : ℕ) (ps : List Bytes) (cs : List codes.Code) → judged_all k ps ≡ accepted cs → 2 * steps (counts_in (codes_counts cs)) ≤ spans ps
 unfolding codes_counts spans

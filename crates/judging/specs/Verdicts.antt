@@ -1,6 +1,8 @@
 -- Judging as the code goes about it, and what each case of its answers is in the paper (crates/paper/specs/Checking.antt).
-use Rattle.std.specs.Prelude.{ℕ, List, Result, Ok, Err}
+use Rattle.std.specs.Prelude.{ℕ, Bool, not, ◌&&◌, List, length, get_or, leb, eqb, Result, Ok, Err}
 use Rattle.std.proofs.Math.Option.{Option, none, some}
+use Rattle.paper.specs.Bytes.{Bytes}
+use Rattle.paper.specs.Sizes.{value_mark}
 use Rattle.paper.specs.Refusals.{Res, given, refused, not_in_grammar}
 use Rattle.paper.specs.Answers.{number_of}
 use Rattle.paper.specs.Codes as paper
@@ -19,6 +21,10 @@ judged_of (refused n) = refused n
 unfoldable pub finished : Option (List paper.Elm) → Tally → Res Counts
 finished none t = refused not_in_grammar
 finished (some es) t = judgement_of (tally_all es t)
+
+-- a mark other than byte 253 at a place where a mark or the end is
+unfoldable pub stray : Bytes → ℕ → Bool
+stray s at = not (leb (length s) at) && not (eqb (get_or s at 0) value_mark)
 
 -- A code string: A, B, P and T, or the refusal with the number of the first bad code.
 pub data Verdict : Type 0 where
