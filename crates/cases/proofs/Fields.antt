@@ -1,38 +1,27 @@
--- A field is a part of what the library's `split` gives.
-use Rattle.std.specs.Prelude.{Option, None, Some, cond}
-use Rattle.std.specs.List.{slice_split, slice_get, onto_first}
-use Rattle.std.specs.Option.{option_map, unwrap_or}
-use Prim.Native.Nat.{ℕ, zero, suc}
-use denote.Ref.{Bor}
-use mathlib.Core.Path.{◌≡◌, refl, ◌∙◌}
-use mathlib.Core.Bool.{Bool, true, false}
-use mathlib.Core.List.{List, [], ◌∷◌}
-use lib.Dec.{eqb}
+-- A field by place: the fields before it are passed one by one, and what is left begins behind the last of them.
+use Prim.Native.Nat.{ℕ, suc, ◌+◌, ◌-◌, ◌≤◌, ◌<◌}
+use mathlib.Core.Path.{◌≡◌, refl, sym, ap, ◌∙◌}
+use mathlib.Core.List.{[]}
+use lib.ListN.{length, take, drop, drop_of_length-le}
+use native.Mathlib.Omega.{arith}
 use Rattle.paper.specs.Bytes.{Bytes}
-use Rattle.paper.specs.Records.{opened, split, nth, or_empty}
-use Rattle.lent.specs.Scan.{piece}
+use Rattle.lent.specs.Scan.{upto, piece}
+use Rattle.lent.proofs.Pieces.{piece_here, pieces_behind, piece_none}
 
-split_parts : (m : ℕ) (bs : Bytes) → slice_split (λ b. eqb b m) bs ≡ split m bs
-unfolding split
-split_parts m [] = refl
-split_parts m (b ∷ bs) = rw (split_parts m bs) (go (eqb b m) (split m bs))
-  where
-    go : (t : Bool) (ps : List Bytes) → cond t ([] ∷ ps) (onto_first b ps) ≡ opened t b ps
-    go true ps = refl
-    go false [] = refl
-    go false (p ∷ ps) = refl
+-- k fields are passed, and the next one begins at `at` and ends at `end`
+module _ (m number : ℕ) (text : Bytes) (at k : ℕ) (inside : at ≤ length text) (e : piece m number text ≡ piece m (number - k) (drop at text))
+    {end : ℕ} (f : end ≡ at + length (upto m m (drop at text))) where
+  pub field_here : number ≤ k → take (end - at) (drop at text) ≡ piece m number text
+  field_here h =
+      let none : number - k ≡ 0 = omega arith in
+      piece_here m text at inside f ∙ sym (e ∙ ap (λ (j : ℕ). piece m j (drop at text)) none)
 
-part_at : (ps : List Bytes) (k : ℕ) → unwrap_or (slice_get ps k) [] ≡ or_empty (nth k ps)
-unfolding nth
-part_at [] k = refl
-part_at (p ∷ ps) zero = refl
-part_at (p ∷ ps) (suc k) = part_at ps k
+  pub field_later : k < number → piece m number text ≡ piece m (number - (k + 1)) (drop (end + 1) text)
+  field_later h =
+      let more : number - k ≡ suc (number - (k + 1)) = omega arith in
+      e ∙ ap (λ (j : ℕ). piece m j (drop at text)) more ∙ pieces_behind m text at inside f (number - (k + 1)) (end + 1) refl
 
-read : (r : Option (Bor Bytes)) (d : Bor Bytes) → (unwrap_or r d).now ≡ unwrap_or (option_map (λ x. x.now) r) d.now
-read None d = refl
-read (Some x) d = refl
-
--- the k-th part that `nth` gave, or the one given in its place
-pub field_of : (m k : ℕ) (text : Bytes) (r : Option (Bor Bytes)) (d : Bor Bytes) → d.now ≡ []
-    → option_map (λ x. x.now) r ≡ slice_get (slice_split (λ b. eqb b m) text) k → (unwrap_or r d).now ≡ piece m k text
-field_of m k text r d e f = read r d ∙ rw (e, f, split_parts m text) (part_at (split m text) k)
+  pub field_missing : k < number → length text ≤ end → [] ≡ piece m number text
+  field_missing h g =
+      let past : length text ≤ end + 1 = omega arith in
+      sym (field_later h ∙ ap (piece m (number - (k + 1))) (drop_of_length-le text past) ∙ piece_none m (number - (k + 1)))

@@ -63,9 +63,16 @@ pub fn first_byte(text: &[u8]) -> u8
 pub fn field(text: &[u8], number: u64, parted: u8) -> &[u8]
     ensures { result.now ≡ piece parted number text.now }
 {
-    text.split(|&b| b == parted)
-        .nth(number as usize)
-        .unwrap_or(&[])
+    let mut at = 0;
+    for _ in 0..number {
+        let end = lent::place_of(text, at, parted);
+        if end == text.len() {
+            return &[];
+        }
+        at = end + 1;
+    }
+    let end = lent::place_of(text, at, parted);
+    &text[at..end]
 }
 
 fn digit(b: u8) -> u64

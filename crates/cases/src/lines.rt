@@ -64,9 +64,17 @@ pub fn spelled_field(line: &[u8], k: u64, marks: bool, out: &mut [u8]) -> usize
     crate::spelled(field(line, k, b'|'), marks, out)
 }
 
-// Whether all bytes from `from` on are zeros.
+// Whether all bytes from `from` on are zeros. A counted place, which is compiled to SIMD: with `all` in its place the program over tables took more than
+// twice as long when measured, behind a `skip` and over a part of the text alike.
 pub fn zeros(text: &[u8], from: usize) -> bool
     ensures { result ≡ all_zeros (drop from text.now) }
 {
-    text.iter().skip(from).all(|&b| b == 0)
+    let mut at = from;
+    while at < text.len() {
+        if text[at] != 0 {
+            return false;
+        }
+        at += 1;
+    }
+    true
 }

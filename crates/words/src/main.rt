@@ -43,13 +43,13 @@ fn date<W: Write>(out: &mut W, code: &[u8], text: &[u8]) -> io::Result<()> {
 fn answer<W: Write>(out: &mut W, input: &[u8]) -> io::Result<()> {
     let first = field(input, 1, b'\n');
     let second = field(input, 2, b'\n');
-    let third = field(input, 3, b'\n');
+    // line 3 is looked for only in a call with an address: behind the others anything may stand
     match first_byte(input) {
         b'c' => check(out, first)?,
         b'd' => date(out, first, second)?,
-        b'f' => placed::answer(out, Call::Find, first, second, third)?,
-        b'r' => placed::answer(out, Call::Replace, first, second, third)?,
-        _ => placed::answer(out, Call::Ceiling, first, second, third)?,
+        b'f' => placed::answer(out, Call::Find, first, second, field(input, 3, b'\n'))?,
+        b'r' => placed::answer(out, Call::Replace, first, second, field(input, 3, b'\n'))?,
+        _ => placed::answer(out, Call::Ceiling, first, second, field(input, 3, b'\n'))?,
     }
     out.write_all(b"\n")
 }

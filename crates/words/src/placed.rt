@@ -27,7 +27,9 @@ fn find<W: Write>(out: &mut W, item: &[u8], at: Address) -> io::Result<()> {
     }
 }
 
-// "Replacing writes a new record to the output": a record's length is room enough, so 16 is never given.
+// "Replacing writes a new record to the output": a record's length is room enough, so 16 is never given. Not compiled into its caller, so that no other
+// call takes the stack of its buffer.
+#[inline(never)]
 fn replace<W: Write>(out: &mut W, item: &[u8], at: Address, new: &[u8]) -> io::Result<()> {
     let mut room = [0u8; Limit::RECORD.most];
     match records::replace(item, at, new, &mut room) {

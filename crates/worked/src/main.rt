@@ -36,7 +36,8 @@ impl Table {
     }
 }
 
-// The record in field 2: room for one that is a byte too long.
+// The record in field 2: room for one that is a byte too long. Not compiled into its caller, so that a table without records takes no stack for one.
+#[inline(never)]
 fn show_spelled<W: Write>(out: &mut W, line: &[u8], table: Table) -> io::Result<()> {
     let mut item = record_room();
     let n = spelled_field(line, 2, true, &mut item);
@@ -47,7 +48,7 @@ fn show_spelled<W: Write>(out: &mut W, line: &[u8], table: Table) -> io::Result<
 }
 
 fn show_answer<W: Write>(out: &mut W, line: &[u8], table: Table) -> io::Result<()> {
-    let case = line.contains(&b'|');
+    let case = lent::some_within(line, b'|', b'|');
     match table {
         Table::Checks => checks::show(out, line),
         Table::Days if case => days::show(out, line),
@@ -71,16 +72,13 @@ fn show_line<W: Write>(out: &mut W, line: &[u8], table: Table) -> io::Result<Tab
 
 // Each line ends at byte 10, the last one also without it.
 fn show_lines<W: Write>(out: &mut W, text: &[u8]) -> io::Result<()> {
-    if text.is_empty() {
-        return Ok(());
-    }
     let mut table = Table::Runs;
-    for line in text
-        .strip_suffix(b"\n")
-        .unwrap_or(text)
-        .split(|b| *b == b'\n')
-    {
-        table = show_line(out, line, table)?;
+    // A counted place: a line ends where the scan of `lent` stops, as everywhere.
+    let mut at = 0;
+    while at < text.len() {
+        let end = lent::place_of(text, at, b'\n');
+        table = show_line(out, &text[at..end], table)?;
+        at = end + 1;
     }
     Ok(())
 }

@@ -1,16 +1,18 @@
--- `cases::field` meets its contract: the parts that the library gives are those of the split.
-use lib.Dec.{eqb}
-use mathlib.Core.Path.{refl, ap, ◌∙◌}
-use Rattle.std.proofs.Common.{rules, tests}
-use Rattle.std.proofs.lemmas.Iterator.Consumers.{nth_from_yields_List}
-use Rattle.std.proofs.lemmas.Iterator.Splits.{YieldsList-from_slice_split}
-use Rattle.cases.proofs.Fields.{field_of}
+-- `cases::field` meets its contract: the fields before it are passed one by one.
+use native.Mathlib.Omega.{arith}
+use Rattle.cases.proofs.Fields.{field_here, field_later, field_missing}
 use Rattle.cases.proofs.field.Goals as goal
+
+pub returns-then-end-text : goal.returns-then-end-text
+returns-then-end-text c =
+    let l = c.loop in
+    field_missing _ _ _ l.at l.counter l.invariant.0 l.invariant.1 c.place_of-end.ensures.value (omega (arith, c.loop-test.true)) (omega (arith, c.if-end-text.true))
+
+pub loop-preserved : goal.loop-preserved
+loop-preserved c =
+    let l = c.loop in
+    (omega (arith, c.place_of-end.ensures), field_later _ _ _ l.at l.counter l.invariant.0 l.invariant.1 c.place_of-end.ensures.value (omega (arith, c.loop-test.true)))
 
 pub returns : goal.returns
 returns c =
-    let a = c.args in
-    let s = c.split.ensures in
-    let kth = nth_from_yields_List c.nth.result _ a.number c.nth.ensures.ran
-    (YieldsList-from_slice_split _ (λ b. eqb b a.parted) a.text.now s.rest s.done s.closure (λ x b q k. search (rules, tests))) in
-    ap (λ x. x.now) c.unwrap_or.ensures ∙ field_of a.parted a.number a.text.now c.nth.result _ refl kth
+    let l = c.loop in field_here _ _ _ l.at l.counter l.invariant.0 l.invariant.1 c.place_of-end-2.ensures.value (omega (arith, c.loop-test.false))

@@ -1,25 +1,19 @@
--- `lines::zeros` meets its contract: all bytes behind those that are skipped.
-use lib.Dec.{eqb}
-use lib.ListN.{drop}
-use mathlib.Core.List.{[], ◌∷◌}
-use mathlib.Core.Path.{◌≡◌, refl, ◌∙◌}
-use Rattle.std.specs.List.{list_all}
-use Rattle.std.proofs.Common.{rules, tests}
-use Rattle.std.proofs.lemmas.Iterator.{YieldsList-from_slice}
-use Rattle.std.proofs.lemmas.Iterator.Adapters.{YieldsList-from_skip}
-use Rattle.std.proofs.lemmas.Iterator.Search.{all_from_yields_List}
-use Rattle.paper.specs.Bytes.{Bytes}
+-- `lines::zeros` meets its contract: what is left decides as long as only zeros were passed.
+use mathlib.Core.Path.{sym, ◌∙◌}
+use borrow.Author.Tests.{ne_eqb}
+use lib.ListN.{drop_of_length-le}
+use Rattle.lent.proofs.Scans.{next}
 use Rattle.cases.specs.Tables.{all_zeros}
 use Rattle.cases.proofs.lines.zeros.Goals as goal
 
-all_of : (bs : Bytes) → list_all (λ b. eqb b 0) bs ≡ all_zeros bs
+pub returns-then-text-at-ne0 : goal.returns-then-text-at-ne0
 unfolding all_zeros
-all_of [] = refl
-all_of (b ∷ bs) = rw (all_of bs)
+returns-then-text-at-ne0 c = sym (c.loop-at.invariant ∙ rw (next _ _ c.loop-at-test.true, ne_eqb _ 0 c.if-text-at-ne0.true))
+
+pub loop-at-preserved : goal.loop-at-preserved
+unfolding all_zeros
+loop-at-preserved c = c.loop-at.invariant ∙ rw (next _ _ c.loop-at-test.true, c.if-text-at-ne0.false)
 
 pub returns : goal.returns
-returns c =
-    let a = c.args in
-    all_from_yields_List {v = λ x. x.now} (λ b. eqb b 0) _ _ c.all.result c.all.ensures.ran
-    (YieldsList-from_skip a.from (YieldsList-from_slice a.text.now cc) c.skip.ensures.count) (λ x b q k. search (rules, tests))
-    ∙ all_of (drop a.from a.text.now)
+unfolding all_zeros
+returns c = sym (c.loop-at.invariant ∙ rw (drop_of_length-le _ c.loop-at-test.false))
