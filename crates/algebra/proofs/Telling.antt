@@ -1,6 +1,6 @@
 -- What showing answers and writes, stage by stage: the tests of the A code, those of its F text, and the output. Assumes nothing.
 use Rattle.std.specs.Prelude.{if◌then◌else◌}
-use Prim.Native.Nat.{ℕ, ◌+◌, ◌-◌, ◌≤◌, ◌<◌}
+use Prim.Native.Nat.{ℕ, ◌-◌, ◌≤◌, ◌<◌}
 use native.Mathlib.Omega.{arith}
 use native.Mathlib.Nat.{sub-zero}
 use mathlib.Core.Path.{◌≡◌, refl, sym, ap, ◌∙◌}
@@ -30,7 +30,7 @@ use Rattle.lent.proofs.Laws.{over_behind}
 use Rattle.lent.proofs.Laying.{laid_behind, laid_read}
 use Rattle.readers.specs.Places.{Peeked}
 use Rattle.readers.proofs.Bytes.{left_none}
-use Rattle.algebra.specs.Expressions.{Expression, elms_in, behind, f_text}
+use Rattle.algebra.specs.Expressions.{Expression, elms_in, f_text}
 use Rattle.algebra.specs.Grammar.{expression, algebra, read}
 use Rattle.algebra.specs.Showing.{in_grammar, understood, spelt_out, lawful_text, shown_text, show}
 use Rattle.algebra.specs.Laying.{Laid, Lays, laid, unread}

@@ -109,7 +109,8 @@ fn base(code: &[u8], at: usize, text: &mut Text) -> Option<usize>
     }
 }
 
-// An operand, and any number of `[y,z]` behind it.
+// An operand, and any number of `[y,z]` behind it. Compiled into its callers, so that a level of parentheses is one call.
+#[inline(always)]
 #[cycle(expression_cycle)]
 fn operand(code: &[u8], at: usize, text: &mut Text) -> Option<usize>
     requires { Room code.now at text.old.bytes text.old.len }

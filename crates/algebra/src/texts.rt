@@ -41,13 +41,15 @@ impl Text {
         self.len += 1;
     }
 
-    // `;` and an elm of one byte
+    // `;` and an elm of one byte. Here and below the length is read and written once: each byte pushed by itself waited for the length of the one before.
     pub(crate) fn sign(&mut self, byte: u8)
         requires { self.old.len + 2 ≤ length self.old.bytes }
         ensures { Laid (ch ";" ∷ byte ∷ []) self.old.bytes self.new.len self.new.bytes self.old.len }
     {
-        self.push(b';');
-        self.push(byte);
+        let at = self.len;
+        self.bytes[at] = b';';
+        self.bytes[at + 1] = byte;
+        self.len = at + 2;
     }
 
     // `;` and an elm as it is spelt
@@ -55,8 +57,9 @@ impl Text {
         requires { self.old.len + 1 + length elm.now ≤ length self.old.bytes }
         ensures { Laid (ch ";" ∷ elm.now) self.old.bytes self.new.len self.new.bytes self.old.len }
     {
-        self.push(b';');
-        lent::copy_in(elm, &mut self.bytes, self.len);
-        self.len += elm.len();
+        let at = self.len;
+        self.bytes[at] = b';';
+        lent::copy_in(elm, &mut self.bytes, at + 1);
+        self.len = at + 1 + elm.len();
     }
 }

@@ -93,7 +93,8 @@ fn run<'a>(
     elements::walk(item, code, text, first, budget, out, &mut slots, &mut work)
 }
 
-// What an accepted string counts, behind the refusals 1 to 7 and 18, "1, 2, 3, 4, 5, 6 or 7".
+// What an accepted string counts, behind the refusals 1 to 7 and 18, "1, 2, 3, 4, 5, 6 or 7". Compiled into its callers: the counts need not go through memory.
+#[inline(always)]
 #[tactic(auto, using(crate::proofs::Stages::place_refused, crate::proofs::Stages::code_counted, crate::proofs::Stages::code_refused))]
 fn counted(item: &[u8], code: &[u8], at: Address) -> Result<Counts, Refusal>
     ensures { told result ≡ counted_of item.now code.now at.a at.v at.s }

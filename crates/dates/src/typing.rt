@@ -63,6 +63,8 @@ fn century(year: u64) -> u64
 }
 
 // "a year of 2 or 4 digits"
+// Here and below compiled into `form`: as calls, what they read went through memory, and a typed date took a quarter more.
+#[inline(always)]
 #[tactic(auto, using(crate::proofs::TypingLaws::year_is))]
 fn year(text: &[u8], at: usize) -> Result<Read<u64>, Refusal>
     requires { at ≤ length text.now }
@@ -181,6 +183,7 @@ fn ordered(letters: bool, a: u64, b: u64, year: u64) -> Date
 }
 
 // "another form is 12": the year ends the text
+#[inline(always)]
 fn ended(text: &[u8], letters: bool, a: u64, b: u64, year: Read<u64>) -> Result<Number, Refusal>
     requires { (year.value ≤ 9_999) × (year.next ≤ length text.now) }
     ensures { told_by whole result ≡ dated (all_read (ended letters a b year.value (drop year.next text.now))) }

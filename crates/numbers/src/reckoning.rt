@@ -13,7 +13,8 @@ use crate::{MOST, Number, reading, writing};
 use codes::Arithmetic;
 use paper::Refusal;
 
-// "Arithmetic, start and length take other strings, the empty one included, as 0."
+// "Arithmetic, start and length take other strings, the empty one included, as 0." Compiled into its callers, as the reading of a number is.
+#[inline(always)]
 #[tactic(auto, unfolding(paper::specs::Numbers::number), using(crate::proofs::ReckoningLaws::read_operand))]
 pub(crate) fn operand(s: &[u8]) -> Result<Number, Refusal>
     ensures { told_by whole result ≡ number s.now }
