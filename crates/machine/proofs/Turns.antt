@@ -59,7 +59,7 @@ pub runs_as : {o q : Outcome} {r : Result ℕ Stopped} {scratch : Bytes} {lens :
 runs_as e t = rw e t
 
 -- the same of a stretch
-stretch_stopped : {o : Ending (List Bytes)} {scratch : Bytes} {lens : List ℕ} (e : Refusal) (steps : ℕ)
+pub stretch_stopped : {o : Ending (List Bytes)} {scratch : Bytes} {lens : List ℕ} (e : Refusal) (steps : ℕ)
     → o ≡ stopped (number_of e) steps → Stretches o (Err (record { refusal = e; steps = steps })) scratch lens
 stretch_stopped e steps p = rw p (record { answers = refl; stack = tt })
 
@@ -192,7 +192,7 @@ elms_onto {e} {n} {entries} s at h f ready = ends (eqb n (length s)) refl
     ends false g = parted (eqb (byte_at s n) 59) refl (eqb-false _ _ g) ∙ ap (elm_onto (elm_of s e)) (sym (rest_more s n (eqb-false _ _ g)))
 
 -- the top entry answers
-top_answers : (budget steps : ℕ) (scratch : Bytes) (lens : List ℕ) (n : ℕ) → 1 ≤ n
+pub top_answers : (budget steps : ℕ) (scratch : Bytes) (lens : List ℕ) (n : ℕ) → 1 ≤ n
     → within_budget budget steps (top_entry (stack_of scratch lens n)) ≡ answered (entry_at scratch lens (n - 1)) steps
 unfolding within_budget top_entry stack_of
 top_answers budget steps scratch lens zero h = absurd (omega arith)

@@ -62,7 +62,7 @@ gave_fits answer most x e = length_fits answer e (limited_fits most x)
 
 -- What a charge tells: the cost, within what is left; or 15, with the cost over it.
 module _ (taken put left : ℕ) where
-  charge_costs : {cost : ℕ} → Ok cost ≡ charge_of taken put left → (cost ≡ 1 + taken + put) × (cost ≤ left)
+  pub charge_costs : {cost : ℕ} → Ok cost ≡ charge_of taken put left → (cost ≡ 1 + taken + put) × (cost ≤ left)
   unfolding charge_of
   charge_costs {cost} e = go (leb (1 + taken + put) left) refl e
     where
@@ -71,7 +71,7 @@ module _ (taken put left : ℕ) where
       go true f e = let same : cost ≡ 1 + taken + put = cc in (same, omega (arith, leb-true (1 + taken + put) left f))
       go false f e = let z : ◌≡◌ {A = ℕ} 0 1 = cc in absurd (omega arith)
 
-  charge_refuses : {r : Refusal} → Err r ≡ charge_of taken put left → (r ≡ Refusal.OverBudget) × (left < 1 + taken + put)
+  pub charge_refuses : {r : Refusal} → Err r ≡ charge_of taken put left → (r ≡ Refusal.OverBudget) × (left < 1 + taken + put)
   unfolding charge_of
   charge_refuses {r} e = go (leb (1 + taken + put) left) refl e
     where
@@ -101,7 +101,7 @@ module _ {scratch : Bytes} {lens : List ℕ} (slotted : Slotted scratch lens) (l
   -- A step that was charged for what it takes and puts.
   module _ (taken put : ℕ) where
     -- 15
-    charged_over : {x : ℕ × List Bytes} {r : Refusal} → x.0 ≡ 1 + taken + put → Err r ≡ charge_of taken put left
+    pub charged_over : {x : ℕ × List Bytes} {r : Refusal} → x.0 ≡ 1 + taken + put → Err r ≡ charge_of taken put left
         → Charges left (given x) (Err r) scratch lens scratch lens
     unfolding step_of stack_after stack_of
     charged_over {x} cost e =

@@ -53,7 +53,7 @@ letter_above n h = rw (le-ltb n 10 h)
 abbrev by_range : ℕ → Bool → Bool → Bool → Option ℕ
 by_range b t u w = if t then some (b - 48) else (if u then some (b - 65 + 10) else (if w then some (b - 97 + 10) else none))
 
-is_other_of : (b : ℕ) (t u w : Bool) → not ((t || u) || w) ≡ is_none (by_range b t u w)
+pub is_other_of : (b : ℕ) (t u w : Bool) → not ((t || u) || w) ≡ is_none (by_range b t u w)
 is_other_of b true u w = refl
 is_other_of b false true w = refl
 is_other_of b false false true = refl
