@@ -15,6 +15,8 @@ pub(crate) fn say_day<W: Write>(out: &mut W, day: Number) -> io::Result<()> {
 }
 
 // A text, its marks drawn; it stands last in its line, since it may hold anything. The buffer is a record's, that of `worked` a short line's.
+// Not compiled into its callers, for the same reason as `placed::replace`.
+#[inline(never)]
 pub(crate) fn say_drawn<W: Write>(out: &mut W, text: &[u8]) -> io::Result<()> {
     let mut line = [0u8; Limit::RECORD.most];
     let n = cases::draw(text, &mut line);
