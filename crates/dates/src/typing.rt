@@ -63,7 +63,7 @@ fn century(year: u64) -> u64
 }
 
 // "a year of 2 or 4 digits"
-// Here and below compiled into `form`: as calls, what they read went through memory, and a typed date took a quarter more.
+// This and `ended` are compiled into `form`: as calls, what they read went through memory, and a typed date took a quarter more.
 #[inline(always)]
 #[tactic(auto, using(crate::proofs::TypingLaws::year_is))]
 fn year(text: &[u8], at: usize) -> Result<Read<u64>, Refusal>

@@ -156,7 +156,8 @@ pub fn clear(buf: &mut [u8])
 }
 
 // All of src from place `at` on. Byte by byte, as the copies below: the slice's own method is a call of `memmove`, which the archive does not ask of its
-// host, and which costs more than an element that is empty or short. An index is kept: of what is written through `iter_mut` a proof knows the length alone.
+// host, and where an element is empty or short the call costs more than the copy. An index is kept: of what is written through `iter_mut` a proof
+// knows the length alone.
 pub fn copy_in(src: &[u8], dst: &mut [u8], at: usize)
     requires { at + length src.now ≤ length dst.old }
     ensures { dst.new ≡ over dst.old at src.now }
